@@ -11,9 +11,9 @@ use std::alloc::{AllocError, Global};
 /// How an argument of a command is written.
 #[derive(Clone, Copy)]
 pub enum Form {
-    /// Required, identified by its place among the arguments.
+    /// Required, identified by its order among the arguments.
     Place,
-    /// Optional, identified by its place after the required arguments.
+    /// Optional, identified by its order after the required arguments.
     Extra,
     /// Optional, as the value after an option's name.
     Choice,

@@ -35,8 +35,8 @@ pub fn requested_help(alloc: Global, words: &[String]) -> Result<Option<String>,
     }
 }
 
-/// Whether one of the arguments may request help or the version. Otherwise `clap` needn't parse the arguments for help. `requested_help`
-/// calls it.
+/// Returns whether one of the arguments may request help or the version. Otherwise `clap` needn't parse the arguments for help.
+/// `requested_help` calls it.
 fn has_help_word(words: &[String]) -> bool
     ensures { result ≡ list_any is_help_word (map string_bytes words.now) }
 {
@@ -48,7 +48,7 @@ fn has_help_word(words: &[String]) -> bool
     false
 }
 
-/// Whether this argument may request help or the version. `has_help_word` calls it.
+/// Returns whether this argument may request help or the version. `has_help_word` calls it.
 fn is_help_word(word: &str) -> bool
     ensures { result ≡ is_help_word word.now }
 {

@@ -275,7 +275,7 @@ fn network_job(alloc: Global, values: &ArgMatches) -> Result<Command, ArgumentsF
 }
 
 /// Returns the command `net check` with the values that `clap` found, which lack an output folder. Fails with `Words` if the first argument
-/// isn't `check`, or for a picture. `network_job` calls it.
+/// isn't `check`, or if the arguments request a picture. `network_job` calls it.
 fn network_check_job(alloc: Global, values: &ArgMatches) -> Result<Command, ArgumentsFault>
     requires { first_of (codes "output") (rows_of (found_of values.now)) ≡ None }
     ensures ok { IfOk result (IsNetworkJob (rows_of (found_of values.now))) }

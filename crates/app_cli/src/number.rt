@@ -61,7 +61,7 @@ pub fn parse_time(word: &str) -> Option<u64>
     }
 }
 
-/// Whether an argument is a list of numbers below 2^32, separated by commas. `has_valid_list` calls it.
+/// Returns whether an argument is a list of numbers below 2^32, separated by commas. `has_valid_list` calls it.
 pub(crate) fn is_number_list(word: &str) -> bool {
     for part in word.split(',') {
         if parse_number(part).is_none() {

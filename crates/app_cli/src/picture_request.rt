@@ -17,9 +17,9 @@ use std::alloc::Global;
 pub struct PictureRequest {
     /// Path of the picture's file.
     pub file: String,
-    /// Start of the picture in ns; by default the first event.
+    /// Start of the picture in ns. `None` means the default: the first event of a run, or the start of a plan's hypercycle.
     pub from: Option<u64>,
-    /// End of the picture in ns; by default the last event.
+    /// End of the picture in ns. `None` means the default: the last event of a run, or the end of a plan's hypercycle.
     pub to: Option<u64>,
     /// Numbers of the ports in the picture, separated by commas (`parse_number_list`); by default all ports.
     pub ports: Option<String>,
@@ -74,7 +74,7 @@ pub(crate) fn picture_by_matches(
     Ok(None)
 }
 
-/// Whether the values name no part of a run or plan: no time, port or filter. `run_picture` and `plan_picture` call it.
+/// Returns whether the values name no part of a run or plan: no time, port or filter. `run_picture` and `plan_picture` call it.
 fn has_no_selection(values: &ArgMatches) -> bool
     ensures { IsTrue result ↔ HasNoPart (rows_of (found_of values.now)) }
 {
@@ -170,7 +170,7 @@ fn read_picture_options(
     })
 }
 
-/// Whether option `name` is absent or a list of numbers. `read_picture_options` calls it.
+/// Returns whether option `name` is absent or a list of numbers. `read_picture_options` calls it.
 fn has_valid_list(values: &ArgMatches, name: &str) -> bool
     ensures { result ≡ false → first_of name.now (rows_of (found_of values.now)) ≢ None }
 {
@@ -196,7 +196,7 @@ fn optional_time(values: &ArgMatches, name: &str) -> Option<Option<u64>>
     }
 }
 
-/// Whether `from` is before `to`. Returns true if one of them is absent. `read_picture_options` calls it.
+/// Returns whether `from` is before `to`. Returns true if one of them is absent. `read_picture_options` calls it.
 fn are_in_order(from: Option<u64>, to: Option<u64>) -> bool
     ensures order { IsTrue result → AreInOrder from to }
     ensures given { result ≡ false → from ≢ None }

@@ -123,15 +123,15 @@ fn request_by_matches(
     }
 }
 
-/// Whether `--explain` is among the arguments before the first `--`. After `--`, `clap` accepts no options. `request_by_matches` and
-/// `report_words` of `app_commands` call it.
+/// Returns whether `--explain` is among the arguments before the first `--`. After `--`, `clap` accepts no options. `request_by_matches`
+/// and `report_words` of `app_commands` call it.
 pub fn wants_explanation(words: &[String]) -> bool
     ensures { result ≡ explains (map string_bytes words.now) }
 {
     has_flag(words, "--explain")
 }
 
-/// Whether `--strict` is among the arguments before the first `--`. It makes warnings about accepted plans and networks errors.
+/// Returns whether `--strict` is among the arguments before the first `--`. It makes warnings about accepted plans and networks errors.
 /// `request_by_matches` calls it.
 pub fn wants_strictness(words: &[String]) -> bool
     ensures { result ≡ is_strict (map string_bytes words.now) }
@@ -139,8 +139,8 @@ pub fn wants_strictness(words: &[String]) -> bool
     has_flag(words, "--strict")
 }
 
-/// Whether `flag` is among the arguments before the first `--`. It also finds flags in arguments that `clap` refuses. `wants_explanation`
-/// and `wants_strictness` call it.
+/// Returns whether `flag` is among the arguments before the first `--`. It also finds flags in arguments that `clap` refuses.
+/// `wants_explanation` and `wants_strictness` call it.
 fn has_flag(words: &[String], flag: &str) -> bool
     ensures { result ≡ has_flag flag.now (map string_bytes words.now) }
 {

@@ -16,7 +16,7 @@ pub struct Usage {
     pub reason: &'static str,
 }
 
-/// Returns the number of required arguments in `words`. Users give them by position, without an option's name. `usage_of_command` calls it.
+/// Returns the number of required arguments in `words`. Users give them without an option's name. `usage_of_command` calls it.
 fn count_operands(words: &[Argument]) -> usize {
     let mut count = 0usize;
     for word in words {
@@ -62,12 +62,12 @@ pub fn command_names(alloc: Global) -> Result<Vec<&'static str>, AllocError> {
     Ok(names)
 }
 
-/// Whether an argument is an option, with or without value. `is_option_named` and `push_options` call it.
+/// Returns whether an argument is an option, with or without value. `is_option_named` and `push_options` call it.
 fn is_option(word: &Argument) -> bool {
     matches!(word.form, Form::Choice | Form::Flag)
 }
 
-/// Whether an argument is the option with name `name`. `find_option` calls it.
+/// Returns whether an argument is the option with name `name`. `find_option` calls it.
 fn is_option_named(word: &Argument, name: &str) -> bool {
     is_option(word) & (word.id == name)
 }

@@ -1,4 +1,4 @@
--- Outputs, exit statuses and faults of the commands for one bridge.
+-- Outputs, exit statuses and failures of the commands for one bridge.
 use Rattle.std.specs.Prelude.{◌≡◌, ◌⊎◌, ◌++◌, ◌&&◌, ℕ, Bool, true, false, not, List, [], None, Option, Some, String, string_bytes}
 use Rattle.std.specs.declared.alloc.Global.{Global}
 use Rattle.std.specs.Io.KnownBytes.{Appends}
@@ -36,7 +36,8 @@ IsWireOutput path output =
 
 -- CHECK
 
--- Holds if the program prints the line of an accepted plan and the text about it. The status is 1 if warnings are errors and the plan has one, otherwise 0.
+-- Holds if the program prints the line of an accepted plan and the text about it. The status is 1 if warnings are errors and the plan has
+-- one, otherwise 0.
 abbrev pub IsCheckOutput : Bool → Bool → Output → Type 0
 IsCheckOutput strict explained output =
     (text : List ℕ) × (line : List ℕ) × (notes : List ℕ) × (warned : Bool) × PrintsAccepted Global text line × AreNotes strict explained notes warned
@@ -44,8 +45,8 @@ IsCheckOutput strict explained output =
 
 -- RUN
 
--- Holds if the program prints the line of a complete run, the text about its plan, and lines of lost frames if losses are errors. The status is 1 exactly if
--- there are such lines.
+-- Holds if the program prints the line of a complete run, the text about its plan, and lines of lost frames if losses are errors. The
+-- status is 1 exactly if there are such lines.
 abbrev pub IsDoneRun : List ℕ → List ℕ → Bool → Bool → Output → Type 0
 IsDoneRun input folder strict explained output =
     (line : List ℕ) × (notes : List ℕ) × (lost : List ℕ) × (lossy : Bool) × PrintsRun Global line × HavePaths input folder × AreNotes strict explained notes false
@@ -80,7 +81,8 @@ IsPictureOutput path output = (text : List ℕ) × (IsStandard path ⊎ (text �
 abbrev pub IsStandardFailure : Bool → Output → Type 0
 IsStandardFailure explained output = (f : Failure) × IsStandardStreamFault Writing f × Reports explained f output
 
--- Holds if `done` is the given output, and the writer received its text for standard output. Without a writer, `done` reports that standard output failed.
+-- Holds if `done` is the given output, and the writer received its text for standard output. Without a writer, `done` reports that standard
+-- output failed.
 abbrev pub IsPut : {W : Type 0} → (W → Option (List ℕ)) → W → Bool → Output → Output → Option W → Type 0
 IsPut contents old explained output done None = IsStandardFailure explained done
 IsPut contents old explained output done (Some new) = (done ≡ output) × Appends (contents old) (contents new) (string_bytes output.stdout)

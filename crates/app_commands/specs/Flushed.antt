@@ -21,8 +21,8 @@ abbrev pub NoneFailed : {V : Type 0} → (V → Bool) → List V → Type 0
 NoneFailed has_failed [] = Unit {0}
 NoneFailed has_failed (v ∷ vs) = (has_failed v ≡ false) × NoneFailed has_failed vs
 
--- Holds if a run whose outputs are all flushed stopped with this fault: before any output, or under way with all departures written. Each source has the rest
--- `rests` of its capture.
+-- Holds if a run whose outputs are all flushed stopped with this fault: before any output, or under way with all departures written. Each
+-- source has the rest `rests` of its capture.
 abbrev pub StopsFlushed : {A W : Type 0} → Plan A → List ℕ → List Command → (ℕ → List ℕ) → (ℕ → Option (List ℕ)) → (W → Option (List ℕ)) → List W → List W → RunFault → Type 0
 StopsFlushed p ports commands texts rests contents olds news (run.Capture port fault) =
     (IsCaptureFault fault × FailsAtPort texts rests ports port fault × AllKept contents contents olds news)

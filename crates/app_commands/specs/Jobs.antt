@@ -1,4 +1,4 @@
--- Jobs over one queue: the printed text, and the fault that ends each job.
+-- Jobs over one queue: the printed text, and the failure that ends each job.
 use Rattle.std.specs.Prelude.{◌≡◌, ◌⊎◌, ◌+◌, ℕ, List, Option, Ok, Err}
 use Rattle.bridge_frame.specs.declared.Speed.{Speed}
 use Rattle.bridge_capture.specs.Hex.{spelled_octets}
@@ -21,7 +21,7 @@ use Rattle.app_commands.specs.Text.{IsTextRun, StopsText}
 abbrev pub PrintsText : List ℕ → List ℕ → Type 0
 PrintsText input lines = (octets : List ℕ) × (spelled_octets input ≡ Ok octets) × IsTextRun octets lines
 
--- Holds if the fault ends the run of this text: a fault of the text, or of the run over its octets.
+-- Holds if the fault ends the run of this hexadecimal text: a fault of the text, or of the run over its octets.
 abbrev pub RefusesText : List ℕ → TextFault → Type 0
 RefusesText input text.NotHex = spelled_octets input ≡ Err hex.NotHex
 RefusesText input text.TooLong = spelled_octets input ≡ Err hex.TooLong

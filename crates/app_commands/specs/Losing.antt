@@ -18,6 +18,6 @@ abbrev pub TellsLost : (A : Type 0) → Bool → List ℕ → List ℕ → Bool 
 TellsLost A strict line lost lossy =
     (outcome : Outcome A) × ((line ≡ summary_text outcome.ports.items) × ((lost ≡ lost_if strict outcome.filters.items) × (lossy ≡ has_lines lost)))
 
--- The exit status of a run without another fault: 1 if a warning or a loss is an error, otherwise 0.
+-- The exit status of a run that doesn't fail: 1 if a warning or a loss is an error, otherwise 0.
 abbrev pub status_of : Bool → Bool → ℕ
 status_of warned lossy = if warned || lossy then 1 else 0

@@ -5,8 +5,9 @@ use Rattle.bridge_filter.specs.declared.FilterPlan.{FilterPlan}
 use Rattle.app_failure.specs.Accepting.{count_grouped, count_protected}
 use Rattle.app_commands.specs.Outputs.{has_text}
 
--- Holds if `notes` is the text about an accepted plan, and `warned` is true exactly if the plan has a warning. Without an explanation, the text has the
--- warnings if they are errors.
+-- Holds if `notes` and `warned` are allowed for an accepted plan. An explanation may have any text.
+--
+-- Without an explanation, `warned` is true exactly if `notes` isn't empty, and `notes` is empty unless warnings are errors.
 abbrev pub AreNotes : Bool → Bool → List ℕ → Bool → Type 0
 AreNotes strict true notes warned = Unit {0}
 AreNotes true false notes warned = warned ≡ has_text notes

@@ -34,11 +34,12 @@ IsAcceptedAt octets_at path plan = HasTextAt octets_at path (λ text. Accepts te
 abbrev pub AreCommandsAt : {A : Type 0} → (List ℕ → Option (List ℕ)) → Option (List ℕ) → Plan A → List Command → Type 0
 AreCommandsAt octets_at path plan commands = (text : Option (List ℕ)) × IsTextIfAt octets_at path text × (commands_for plan text ≡ Ok commands)
 
--- Holds if `f` is a fault of plan `p` with the commands of the file at an optional path.
+-- Holds if `f` is a failure of plan `p` with the commands of the file at an optional path.
 abbrev pub EndsCommandsAt : {A : Type 0} → (List ℕ → Option (List ℕ)) → Option (List ℕ) → Plan A → Failure → Type 0
 EndsCommandsAt octets_at path p f = (text : Option (List ℕ)) × IsTextIfAt octets_at path text × EndsCommanded p path text f
 
--- Holds if `f` ends the reading of a plan and its commands: a fault of the plan file's text, or of its plan with the commands of their file.
+-- Holds if failure `f` ends the reading of a plan and its commands. It is of the plan file's text, or of its plan with the commands of
+-- their file.
 abbrev pub EndsReadingAt : (A : Type 0) → (List ℕ → Option (List ℕ)) → List ℕ → Option (List ℕ) → Failure → Type 0
 EndsReadingAt A octets_at plan commands f =
     HasTextAt octets_at plan (λ text. EndsPlan A plan text f) ⊎ ((p : Plan A) × HasTextAt octets_at plan (λ text. text_plan text ≡ Ok p) × EndsCommandsAt octets_at commands p f)
@@ -47,6 +48,6 @@ EndsReadingAt A octets_at plan commands f =
 abbrev pub HasPlanAt : (A : Type 0) → (List ℕ → Option (List ℕ)) → List ℕ → Type 0
 HasPlanAt A octets_at path = (p : Plan A) × HasTextAt octets_at path (λ text. text_plan text ≡ Ok p)
 
--- Holds if `f` ends the picture of the plan in the file at `plan`: a fault of its text, or of the picture.
+-- Holds if `f` ends the picture of the plan in the file at `plan`: a failure of its text, or of the picture.
 abbrev pub EndsPictureAt : (A : Type 0) → (List ℕ → Option (List ℕ)) → List ℕ → List ℕ → Failure → Type 0
 EndsPictureAt A octets_at plan file f = HasTextAt octets_at plan (λ text. EndsPlan A plan text f) ⊎ IsOfPicture file f

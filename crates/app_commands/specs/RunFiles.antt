@@ -55,8 +55,9 @@ EndsReading A plan commands f = ((text : List ℕ) × EndsPlan A plan text f) �
 abbrev pub IsCaptureOfRun : {A : Type 0} → Plan A → List ℕ → List ℕ → Type 0
 IsCaptureOfRun p folder path = (ports : List ℕ) × ArePortNumbers p ports × IsCapture folder ports path
 
--- Holds if a file fault of the run can name `path`. A read fault names an input capture, a write fault an output capture, the report, or the output folder (if
--- it is the input folder).
+-- Holds if a file fault of the run can name `path`. A fault of reading names an input capture.
+--
+-- A fault of writing names an output capture, the report, or the output folder if it is the input folder.
 abbrev pub IsFileOfRun : {A : Type 0} → Plan A → List ℕ → List ℕ → Access → List ℕ → Type 0
 IsFileOfRun p input output Reading path = IsCaptureOfRun p input path
 IsFileOfRun p input output Writing path = IsCaptureOfRun p output path ⊎ ((path ≡ output) ⊎ (path ≡ report_path output))

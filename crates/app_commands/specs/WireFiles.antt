@@ -1,4 +1,4 @@
--- The message with the counts after a capture was sent through one queue, and the faults that can end the command.
+-- The message with the counts after a capture was sent through one queue, and the failures that can end the command.
 use Rattle.std.specs.Prelude.{◌≡◌, ℕ, List, string_bytes}
 use Rattle.bridge_capture.specs.declared.fault.RunFault.TheVariants as run
 use Rattle.bridge_wire.specs.Wire.{NamesPortOne}
@@ -12,7 +12,8 @@ use Rattle.app_files.specs.declared.output.Said.TheVariants as said
 use Rattle.app_commands.specs.Jobs.{IsCountsLine}
 use Rattle.app_commands.specs.Text.{StopsText}
 
--- Holds if the message has the counts of some run: for standard error if the capture goes to standard output, otherwise for standard output.
+-- Holds if the message has the counts of some run: for standard error if the capture goes to standard output, otherwise for standard
+-- output.
 abbrev pub SaysCounts : List ℕ → Said → Type 0
 SaysCounts output (said.Printed line) = (¬ IsStandard output) × IsCountsLine (string_bytes line)
 SaysCounts output (said.Noted line) = IsStandard output × IsCountsLine (string_bytes line)
@@ -33,7 +34,7 @@ EndsInto output (fault.Run (run.Write port)) = (¬ IsStandard output) × (port �
 EndsInto output (fault.Run f) = NamesPortOne f
 EndsInto output f = ⊥
 
--- Holds if the fault ends a run from one file into another: a read fault names the input, a write fault the output.
+-- Holds if the failure ends a run from one file into another. If a read failed, it names the input; if a write failed, the output.
 abbrev pub EndsWiring : List ℕ → List ℕ → Failure → Type 0
 EndsWiring input output (fault.File e) = string_bytes e.path ≡ path_by e.access input output
 EndsWiring input output f = EndsInto output f

@@ -117,8 +117,8 @@ fn check_file<F: ReadFiles>(
     }
 }
 
-/// Checks the plan in `text`, and returns its line and notes. A refused plan is a fault; a fault of reading names `path`. `check_input` and
-/// `check_file` call it.
+/// Checks the plan in `text`, and returns its line and notes. Returns a failure if the plan is refused or memory runs out. `check_input`
+/// and `check_file` call it.
 fn check_text(alloc: Global, path: &str, text: &[u8], flags: Flags) -> Result<CheckedPlan, Failure>
     ensures ok { IfOk result (λ checked. PrintsAccepted Global text.now (string_bytes checked.line)) }
     ensures notes { IfOk result (λ checked. AreNotes flags.is_strict flags.is_explained (string_bytes checked.notes)

@@ -21,8 +21,8 @@ use std::rt::Files;
 /// Number of a capture's first octets that an explanation reads: enough for the header.
 const FRONT: u64 = 64;
 
-/// Explains why arguments, hexadecimal text, or standard input and output failed. Returns `None` for other faults without a file, or if
-/// memory runs out. `report_words` and `explain_failure` of `app_networks` call it.
+/// Explains why arguments, hexadecimal text, or standard input and output failed. Returns `None` for other failures without a file, or if
+/// memory runs out. `report_words`, and `explain_failure` of `app_networks` call it.
 pub fn explain_words_fault(alloc: Global, words: &[String], fault: &Failure) -> Option<String> {
     match fault {
         Failure::Words => explain_arguments(alloc, words).ok(),
@@ -43,7 +43,7 @@ pub fn explain_file_fault(alloc: Global, fault: &Failure) -> Option<String> {
 }
 
 /// Explains why the file at `path` failed. Escapes control characters in the path, so that it has one line. Returns `None` if memory runs
-/// out. `explain_file_fault` and `explain_unread` of `app_networks` call it.
+/// out. `explain_file_fault`, and `explain_unread` of `app_networks` call it.
 pub fn explain_file_cause(alloc: Global, path: &str, cause: Cause) -> Option<String> {
     let shown = escape_text(alloc, path).ok()?;
     explain_file(alloc, shown.as_str(), cause).ok()
@@ -205,7 +205,9 @@ fn explain_capture(
 }
 
 /// Returns warnings about an accepted plan, its capture folder, and changes and commands after the last frame. `idle` is the line of a
-/// schedule change without effect. `None` if memory runs out. `run_warnings` calls it.
+/// schedule change without effect. Returns `None` if memory runs out.
+///
+/// `run_warnings` calls it.
 pub(crate) fn warnings_of_run<H: AllocGlobal + Files>(
     rt: &H,
     accepted: &Accepted<Global>,

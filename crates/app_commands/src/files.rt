@@ -97,8 +97,10 @@ fn wire_to_output<R: Read + Drop, H: AllocGlobal + Print + Files>(
     }
 }
 
-/// Sends a reader's capture through one queue of `room` frames into `writer`. `output` is the path in faults; `-` sends the counts to
-/// standard error. Contracts name the returned writer's contents. `wire_to_output` calls it.
+/// Sends a reader's capture through one queue of `room` frames into `writer`. Failures name the path `output`; if it is `-`, the counts go
+/// to standard error.
+///
+/// Contracts name the returned writer's contents. `wire_to_output` calls it.
 pub fn wire_streams<R: Read + Drop, W: Write + Drop>(
     alloc: Global,
     speed: Speed,
@@ -133,8 +135,8 @@ fn summary_output(line: String, output: &str) -> Said
     }
 }
 
-/// Returns the command's failure after a run. A failed write to standard output becomes a fault of the file `-`, because it has no port.
-/// `wire_streams` calls it.
+/// Returns the command's failure after a run. A failed write of a capture to standard output, which has no port, becomes a failure of the
+/// file `-`. `wire_streams` calls it.
 fn output_fault(alloc: Global, fault: Failure, output: &str) -> Failure
     ensures over { (input : List ℕ) → EndsWire input fault → EndsOver output.now input result }
     ensures only { IsOfRun fault → EndsInto output.now result }

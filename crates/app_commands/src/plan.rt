@@ -12,7 +12,7 @@ use std::fs;
 use std::io::Read;
 use std::rt::Files;
 
-/// Reads the text of the file at `path`, at most 1,048,577 octets of it.
+/// Reads at most 1,048,577 octets of the file at `path`.
 pub fn read_file_text<F: ReadFiles>(files: &mut F, path: &str) -> Result<Vec<u8>, Failure>
     ensures text { IfOk result (λ text. IsTextAt (F.octets_at files.old) path.now text.items) }
     ensures fails { IfErr result (IsFileFault Reading path.now) }
@@ -40,8 +40,8 @@ pub(crate) fn read_standard_text<R: Read + Drop>(
     }
 }
 
-/// Whether the file at `path` is a network: a line begins with `[[bridge]]`. The command `picture` draws plans and networks. Returns false
-/// for a pipe, which can't be read twice.
+/// Returns whether the file at `path` is a network: a line begins with `[[bridge]]`. The command `picture` draws plans and networks.
+/// Returns false for a pipe, which can't be read twice.
 ///
 /// `explain_picture_fault` and `draw` of `app_networks` call it.
 pub fn is_network<H: AllocGlobal + Files>(rt: &H, path: &str) -> bool {

@@ -25,13 +25,12 @@ const BIG_ENDIAN: u8 = 0xa1;
 /// Length of a record's header in octets.
 const RECORD_HEADER_LENGTH: usize = 16;
 
-/// Writes a line over the line before it on standard error. If that fails, the run goes on without the line. `Progress` and
-/// `ProgressPrinter` of `app_networks` call it.
+/// Writes a line over the line before it on standard error. If that fails, the run goes on without the line.
 pub fn show_line(rt: &impl Eprint, line: &str) {
     let _ = eprint!(rt; "\r{line}\x1b[K");
 }
 
-/// Removes the line that `show_line` wrote. `Progress::clear` and `ProgressPrinter::clear` of `app_networks` call it.
+/// Removes the progress line from standard error. `Progress::clear` and `ProgressPrinter::clear` of `app_networks` call it.
 pub fn clear_line(rt: &impl Eprint) {
     let _ = eprint!(rt; "\r\x1b[K");
 }
@@ -73,7 +72,7 @@ impl<'a, H: Clock + Eprint> Progress<'a, H> {
         }
     }
 
-    /// Adds read octets and records, and writes the line after each `STEP` octets. `WatchedReader` calls it for each read.
+    /// Adds read octets and records, and writes the line after each `STEP` octets. `WatchedReader::read` calls it.
     fn add(&self, start: Instant, octets: u64, frames: u64) {
         let read = self.octets.get().saturating_add(octets);
         self.octets.set(read);
@@ -108,7 +107,7 @@ impl<'a, H: Clock + Eprint> Progress<'a, H> {
         seconds.saturating_mul(self.total.saturating_sub(read)) / read
     }
 
-    /// Removes the line, if one was written. Its owner calls it before other lines appear on standard error.
+    /// Removes the line, if one was written, before other lines appear on standard error. `wire_files` and `run_watched` call it.
     pub(crate) fn clear(&self) {
         if self.start.is_some() && self.octets.get() >= STEP {
             clear_line(self.rt);

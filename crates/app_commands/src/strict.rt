@@ -160,8 +160,8 @@ fn run_warnings<H: AllocGlobal + Files>(
     }
 }
 
-/// Runs captures under an accepted plan if the plan has no warning; otherwise returns the warnings. Called if warnings are errors.
-/// `run_accepted_captures` calls it.
+/// Runs captures under an accepted plan if the plan has no warning; otherwise returns the warnings. `run_accepted_captures` calls it if
+/// warnings are errors.
 #[tactic(auto, using(crate::proofs::ShownEnded::memory_ends))]
 fn send_strictly<H: AllocGlobal + Clock + Eprint + Files>(
     files: &mut CommandFiles<'_, H>,

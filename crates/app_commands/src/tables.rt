@@ -98,8 +98,8 @@ fn write_frame_table<H: AllocGlobal + Files>(
     }
 }
 
-/// Writes `text` to the file at `path` in place of any earlier contents, and returns the file. Fails if the file is in use; afterwards it
-/// is in use. `write_delay_table` and `write_frame_table` call it.
+/// Writes `text` to the file at `path` instead of any earlier contents, and returns the file. Fails if the file is in use; afterwards it is
+/// in use. `write_delay_table` and `write_frame_table` call it.
 pub(crate) fn write_table<H: AllocGlobal + Files>(
     files: &mut CommandFiles<'_, H>,
     path: &str,

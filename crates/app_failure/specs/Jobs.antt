@@ -1,4 +1,4 @@
--- Jobs over plans: the printed line, and the fault that ends each job.
+-- Jobs over plans: the printed line, and the failure that ends each job.
 use Rattle.std.specs.Prelude.{◌≡◌, ◌⊎◌, ℕ, List, None, Some, Ok}
 use Rattle.bridge_schema.specs.Readers.{IsReadFault}
 use Rattle.bridge_config.specs.Model.{Plan}

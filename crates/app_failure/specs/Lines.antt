@@ -57,7 +57,8 @@ text_fault_line text.NotHex = codes "text refused: NotHex"
 text_fault_line text.TooLong = codes "text refused: TooLong"
 text_fault_line (text.Run f) = run_fault_line f
 
--- The fault line of a file that can't be opened, created, read or written. Control characters of its path are escaped, so that it is one line.
+-- The fault line of a file that can't be opened, created, read or written. Control characters of its path are escaped, so that it is one
+-- line.
 abbrev pub file_fault_line : List ℕ → List ℕ
 file_fault_line path = codes "file " ++ escaped path
 

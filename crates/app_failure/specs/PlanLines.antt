@@ -8,11 +8,11 @@ use Rattle.bridge_schema.specs.declared.plan_fault.PlanFault.{PlanFault}
 use Rattle.bridge_schema.specs.declared.plan_fault.PlanFault.TheVariants as plan
 use Rattle.bridge_schema.specs.Keys.{key_name, section_name}
 
--- The section's name and the instance's position from 1; only the name for position 0.
+-- The section's name and the instance's number, from 1; only the name for the number 0.
 abbrev pub instance_text : Section → ℕ → List ℕ
 instance_text section index = if index == 0 then section_name section else section_name section ++ (codes " " ++ decimal index)
 
--- A section, an instance's position and a key, such as `filter 2 max_sdu`.
+-- A section, an instance's number and a key, such as `filter 2 max_sdu`.
 abbrev pub key_text : KeyLocation → List ℕ
 key_text place = instance_text place.section place.index ++ (codes " " ++ key_name place.field)
 

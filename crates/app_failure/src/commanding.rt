@@ -13,7 +13,7 @@ use bridge_config::{Command, Plan, commands_of};
 use std::alloc::{Allocator, Global};
 use std::io::Read;
 
-/// Accepts a plan and reads its commands from a reader; without a reader there are none. The path in `file` names the commands in a fault.
+/// Accepts a plan and reads its commands from a reader; without a reader there are none. Failures name the path in `file`.
 ///
 /// Reads the commands before the check: fails with `Commands` or `Check`. `read_commands` of `app_commands` calls it.
 pub fn read_commands_and_check<R: Read + Drop, A: Allocator + Copy>(

@@ -21,7 +21,7 @@ pub enum TextFault {
     /// The text isn't hexadecimal.
     #[error("the text is not hexadecimal")]
     NotHex,
-    /// The text is longer than 4,194,304 bytes, or encodes more than 1,048,576 octets.
+    /// The text is longer than 4,194,304 octets, or encodes more than 1,048,576 octets.
     #[error("the text is too long")]
     TooLong,
     /// The run over its octets stopped, or memory ran out.
@@ -97,7 +97,7 @@ impl From<FileFault> for Failure {
 }
 
 /// Returns the command's failure for file fault `fault`: the failed file with its cause, or `NoMemory`. Functions of `app_commands`,
-/// `app_networks` and `net_check` call it.
+/// `app_networks`, `net_check` and `net_latency` call it.
 pub fn file_failure(fault: FileFault) -> Failure
     ensures same { result ≡ of_file_fault fault }
     ensures ends { EndsFiles result }

@@ -58,8 +58,7 @@ pub fn read_plan<R: Read + Drop, A: Allocator + Copy>(
     }
 }
 
-/// Reads and checks a plan, and returns the line to print. If the reader fails, the failure names `path`. Callers that print no warnings
-/// call it.
+/// Reads and checks a plan, and returns the line to print. If the reader fails, the failure names `path`. Only test programs call it.
 pub fn check_job<R: Read + Drop, A: Allocator + Copy>(
     alloc: A,
     heap: Global,

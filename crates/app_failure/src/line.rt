@@ -36,7 +36,7 @@ pub fn fault_line<A: Allocator + Copy>(
     }
 }
 
-/// Writes the fault line of a fault by the function for its kind. A fault of a network has its line already. `fault_line` calls it.
+/// Writes the fault line of a failure by the function for its kind. The failure of a network has its line already. `fault_line` calls it.
 fn put_fault<A: Allocator + Copy>(alloc: A, text: &mut TextBuilder<A>, fault: &Failure)
     ensures { HasGrown text.old (fault_line fault.now) text.new }
 {
@@ -145,7 +145,7 @@ fn put_file<A: Allocator>(text: &mut TextBuilder<A>, path: &str)
     text.put_escaped(path);
 }
 
-/// Prints `text` to standard output. A failed write is a fault of the file `-`. Only test programs call it.
+/// Prints `text` to standard output. A failed write is a failure of the file `-`. Only test programs call it.
 pub fn print(rt: &(impl AllocGlobal + Print), text: &str) -> Result<(), Failure>
     ensures { IfErr result (IsStandardStreamFault Writing) }
 {
@@ -155,7 +155,8 @@ pub fn print(rt: &(impl AllocGlobal + Print), text: &str) -> Result<(), Failure>
     }
 }
 
-/// Prints the fault line to standard error, and returns the exit status; 3 if memory for the line runs out. Only test programs call it.
+/// Prints the fault line to standard error, and returns the exit status; 3 if memory for the line runs out. `main` of `tsnbridge` and test
+/// programs call it.
 pub fn print_fault(rt: &(impl AllocGlobal + Eprint), fault: &Failure) -> ExitCode
     ensures { (exit_status result ≡ fault_status fault.now) ⊎ (exit_status result ≡ 3) }
 {

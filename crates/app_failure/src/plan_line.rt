@@ -97,7 +97,7 @@ fn put_list<A: Allocator>(text: &mut TextBuilder<A>, section: Section, index: u3
     text.put(name);
 }
 
-/// Writes the section and the instance's position from 1. Position 0 stands for the section itself. `put_instance`, `put_key` and
+/// Writes the section and the number of the instance, from 1. The number 0 stands for the section itself. `put_instance`, `put_key` and
 /// `put_list` call it.
 fn put_section_instance<A: Allocator>(text: &mut TextBuilder<A>, section: Section, index: u32)
     ensures { HasGrown text.old (instance_text section index) text.new }

@@ -8,11 +8,11 @@ use Rattle.app_files.specs.declared.failed_file.FileFault.{FileFault}
 use Rattle.app_files.specs.declared.failed_file.FileFault.TheVariants as fault
 use Rattle.app_files.specs.Paths.{capture_path}
 
--- Holds if the error is of the file at `path`, which was used in this way.
+-- Holds if the error is of the file at `path`, with this access.
 abbrev pub IsErrorOf : Access → List ℕ → FileError → Type 0
 IsErrorOf access path e = (e.access ≡ access) × (string_bytes e.path ≡ path)
 
--- Holds if the fault names the file at `path`, which was used in this way, or memory ran out.
+-- Holds if the fault names the file at `path`, with this access, or memory ran out.
 abbrev pub IsOfPath : Access → List ℕ → FileFault → Type 0
 IsOfPath access path (fault.File e) = IsErrorOf access path e
 IsOfPath access path fault.NoMemory = Unit {0}
@@ -21,7 +21,7 @@ IsOfPath access path fault.NoMemory = Unit {0}
 abbrev pub IsCapture : List ℕ → List ℕ → List ℕ → Type 0
 IsCapture folder ports path = (port : ℕ) × IsMember port ports × (path ≡ capture_path folder port)
 
--- Holds if the fault names the capture of one of these ports in a folder, which was used in this way, or memory ran out.
+-- Holds if the fault names the capture of one of these ports in a folder, with this access, or memory ran out.
 abbrev pub IsCaptureFault : Access → List ℕ → List ℕ → FileFault → Type 0
 IsCaptureFault access folder ports (fault.File e) = (e.access ≡ access) × IsCapture folder ports (string_bytes e.path)
 IsCaptureFault access folder ports fault.NoMemory = Unit {0}

@@ -8,7 +8,8 @@ use Rattle.app_files.specs.FailedFiles.{path_by}
 abbrev pub HavePaths : List ℕ → List ℕ → Type 0
 HavePaths input output = (input ≢ []) × (output ≢ [])
 
--- Holds if one of the paths is empty, and the fault names the empty path or memory ran out. A read fault means the input, a write fault the output.
+-- Holds if one of the paths is empty, and the fault names the empty path or memory ran out. A fault of reading means the input, a fault of
+-- writing the output.
 abbrev pub LackPath : List ℕ → List ℕ → FileFault → Type 0
 LackPath input output (fault.File e) = (path_by e.access input output ≡ []) × (string_bytes e.path ≡ [])
 LackPath input output fault.NoMemory = (input ≡ []) ⊎ (output ≡ [])

@@ -38,7 +38,7 @@ pub enum Cause {
     Unknown,
 }
 
-/// Whether the folder of a path exists. If it doesn't, the missing folder is the cause. Returns true for a path without folder.
+/// Returns whether the folder of a path exists. If it doesn't, the missing folder is the cause. Returns true for a path without folder.
 /// `read_cause` and `write_cause` call it.
 fn has_folder(rt: &impl Files, path: &str) -> bool {
     match parent_folder(path) {
@@ -81,7 +81,7 @@ pub fn read_cause(rt: &impl Files, path: &str, error: &Error) -> Cause {
 /// Returns why the file at `path` can't be opened or created for writing, after the error `error`. For a missing file, examines whether its
 /// folder exists. `Unknown` for other errors.
 ///
-/// `create_output`, and `make_folder` of `app_networks` call it.
+/// `create_output` and `make_folder` call it.
 pub fn write_cause(rt: &impl Files, path: &str, error: &Error) -> Cause {
     match error.kind() {
         ErrorKind::NotFound => {
@@ -121,7 +121,7 @@ pub fn capture_cause(
     }
 }
 
-/// Whether a file exists whose path is `path` followed by `ending`. Returns false if memory runs out. `capture_cause` calls it.
+/// Returns whether a file exists whose path is `path` followed by `ending`. Returns false if memory runs out. `capture_cause` calls it.
 fn has_file_with_suffix(rt: &(impl AllocGlobal + Files), path: &str, ending: &str) -> bool {
     match format!(in rt.alloc(); "{path}{ending}") {
         Ok(other) => is_file(rt, other.as_str()),
@@ -129,7 +129,7 @@ fn has_file_with_suffix(rt: &(impl AllocGlobal + Files), path: &str, ending: &st
     }
 }
 
-/// Whether `path` leads to a regular file; false for pipes, folders, and paths whose metadata can't be read.
+/// Returns whether `path` leads to a regular file; false for pipes, folders, and paths whose metadata can't be read.
 ///
 /// Callers ask before they read a file that will be read again (`is_network`), or name a file in a warning or a cause.
 pub fn is_file(rt: &impl Files, path: &str) -> bool {

@@ -46,7 +46,7 @@ impl<'a, H: AllocGlobal + Files> CommandFiles<'a, H> {
         self.rt.alloc()
     }
 
-    /// Returns a copy with equal files in use. Callers add files to the copy for a test, and then drop it.
+    /// Returns a copy with equal files in use. `files_of_run` of `app_commands` adds files to the copy for a test.
     pub fn copy(&self) -> Result<CommandFiles<'a, H>, NoMemory> {
         Ok(CommandFiles {
             rt: self.rt,
@@ -54,7 +54,7 @@ impl<'a, H: AllocGlobal + Files> CommandFiles<'a, H> {
         })
     }
 
-    /// Opens a file for reading, and adds it to the files in use. `CommandFiles::read` and `open_output` call it.
+    /// Opens a file for reading, and adds it to the files in use. `CommandFiles::read` and `CommandFiles::open_file` call it.
     pub fn open(&mut self, path: &str) -> Result<H::File, FileFault>
         ensures fails { IfErr result (IsOfPath Reading path.now) }
         ensures kept { BeginWith self.old.in_use.items self.new.in_use.items }
@@ -72,7 +72,7 @@ impl<'a, H: AllocGlobal + Files> CommandFiles<'a, H> {
         self.read(path, MOST_TEXT)
     }
 
-    /// Adds open files to the files in use. A command calls it for the captures that it reads.
+    /// Adds open files to the files in use. `create_outputs` of `app_commands` calls it for the captures that a run reads.
     pub fn note_files(&mut self, files: &[H::File]) -> Result<(), NoMemory>
         ensures { BeginWith self.old.in_use.items self.new.in_use.items }
     {
@@ -144,7 +144,7 @@ impl<'a, H: AllocGlobal + Files> CommandFiles<'a, H> {
         Ok(())
     }
 
-    /// Refuses standard output if it goes to a file in use. A fault names the path `-`.
+    /// Refuses standard output if it goes to a file in use. The file fault names the path `-`.
     pub fn spare_standard_output(&self) -> Result<(), FileFault>
         ensures { IfErr result (IsOfPath Writing (codes "-")) }
     {
@@ -239,8 +239,8 @@ impl<H: AllocGlobal + Files> ReadFiles for CommandFiles<'_, H> {
     }
 }
 
-/// Opens the file at `path` for reading. Doesn't add it to files in use: commands that write no file need none. `open` and
-/// `read_text_file`, and `bound_traffic` of `app_networks` call it.
+/// Opens the file at `path` for reading. Doesn't add it to files in use: commands that write no file need none. `open` and `read_text_file`
+/// call it.
 pub fn open_input<H: AllocGlobal + Files>(rt: &H, path: &str) -> Result<H::File, FileFault>
     ensures { IfErr result (IsOfPath Reading path.now) }
 {
@@ -250,8 +250,8 @@ pub fn open_input<H: AllocGlobal + Files>(rt: &H, path: &str) -> Result<H::File,
     }
 }
 
-/// Reads at most `most` octets of an open file. A fault names `path`, with the cause of the failed read. `read` and `read_text_file`, and
-/// `bound_traffic` of `app_networks` call it.
+/// Reads at most `most` octets of an open file. The file fault names `path`, with the cause of the failed read. `read` and
+/// `read_text_file`, and `bound_traffic` of `app_networks` call it.
 pub fn read_open<R: Read + Drop>(
     rt: &(impl AllocGlobal + Files),
     path: &str,
@@ -274,8 +274,7 @@ pub fn read_open<R: Read + Drop>(
     }
 }
 
-/// Reads at most `MOST_TEXT` octets of the file at `path`. Doesn't add it to files in use: commands that write no file need none.
-/// `bound_plan` of `app_networks` calls it.
+/// Reads at most `MOST_TEXT` octets of the file at `path`. Doesn't add it to files in use. Only test programs call it.
 pub fn read_text_file<H: AllocGlobal + Files>(rt: &H, path: &str) -> Result<Vec<u8>, FileFault>
     ensures { IfErr result (IsOfPath Reading path.now) }
 {
@@ -324,8 +323,8 @@ pub fn open_capture<H: AllocGlobal + Files>(
     }
 }
 
-/// Opens the file at `path` for writing, or creates it. Its contents remain until the first write. A fault has path and cause. `create` and
-/// `wire_to_output` of `app_commands` call it.
+/// Opens the file at `path` for writing, or creates it. Its contents remain until the first write. A file fault has path and cause.
+/// `create` and `create_apart` call it.
 pub fn create_output<H: AllocGlobal + Files>(
     rt: &H,
     path: &str,
@@ -420,7 +419,7 @@ pub trait ReadFiles {
         ensures fails { IfErr result (IsOfPath Reading path.now) }
         ensures same { (path : List ℕ) → octets_at self.new path ≡ octets_at self.old path };
 
-    /// Whether a file exists at `path`. `read_commands` of `app_networks` asks, because a bridge's commands are optional.
+    /// Returns whether a file exists at `path`. `read_commands` of `app_networks` asks, because a bridge's commands are optional.
     fn is_there(&self, path: &str) -> bool
         ensures { (octets : List ℕ) → octets_at self.now path.now ≡ Some octets → IsTrue result };
 }

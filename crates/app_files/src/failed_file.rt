@@ -1,6 +1,6 @@
-//! The fault of a file: its path, whether it was read or written, and the cause.
+//! File faults: the path of a file, whether it was read or written, and the cause.
 //!
-//! Only this crate makes the fault of a file, in the function whose call failed.
+//! Only this crate makes file faults, in the function whose call failed.
 ghost use Rattle.std.specs.Prelude.{◌≡◌, string_bytes};
 ghost use Rattle.app_files.specs.FailedFiles.{IsOfPath};
 ghost use Rattle.app_files.specs.declared.failed_file.FileFault.TheVariants.{NoMemory as no_memory};
@@ -19,7 +19,8 @@ pub enum Access {
     Writing,
 }
 
-/// File that failed, with the cause. Standard input and output have the path `-`. Other crates can read the parts, but can't make the value.
+/// File that failed, with the cause. Standard input and output have the path `-`. Other crates can read the parts, but can't make the
+/// value.
 #[derive(Debug, Drop)]
 pub struct FileError {
     path: String,
@@ -75,8 +76,8 @@ impl From<AllocError> for FileFault {
     }
 }
 
-/// Returns the fault of the file at `path`. If memory for the path runs out, returns `NoMemory` instead. `input_fault` and `output_fault`
-/// call it.
+/// Returns the file fault of the file at `path`. If memory for the path runs out, returns `NoMemory` instead. `input_fault` and
+/// `output_fault` call it.
 pub(crate) fn file_fault(alloc: Global, access: Access, path: &str, cause: Cause) -> FileFault
     ensures { IsOfPath access path.now result }
 {
@@ -90,14 +91,14 @@ pub(crate) fn file_fault(alloc: Global, access: Access, path: &str, cause: Cause
     }
 }
 
-/// Returns the fault of an input at `path`.
+/// Returns the file fault of the input at `path`.
 pub(crate) fn input_fault(alloc: Global, path: &str, cause: Cause) -> FileFault
     ensures { IsOfPath Reading path.now result }
 {
     file_fault(alloc, Access::Reading, path, cause)
 }
 
-/// Returns the fault of an output at `path`.
+/// Returns the file fault of the output at `path`.
 pub(crate) fn output_fault(alloc: Global, path: &str, cause: Cause) -> FileFault
     ensures { IsOfPath Writing path.now result }
 {

@@ -26,8 +26,7 @@ pub struct Output<F: Write + OpenFile + Drop> {
 }
 
 impl<F: Write + OpenFile + Drop> Output<F> {
-    /// Returns the identity of the file, or `None` if the system doesn't provide it. `create` and `create_new`, and `wire_to_output` of
-    /// `app_commands` call it.
+    /// Returns the identity of the file, or `None` if the system doesn't provide it. `create`, `create_new` and `create_apart` call it.
     pub fn id(&self) -> Option<FileId> {
         open_file_id(&self.file)
     }
@@ -92,7 +91,7 @@ pub fn open_file_id(file: &impl OpenFile) -> Option<FileId> {
 }
 
 /// Returns the identity of the file at `path`, or `None` if the file doesn't exist or the system provides no identity. `note_paths`,
-/// `is_in_use` and functions of `app_commands` and `app_networks` call it.
+/// `refuse_in_use` and functions of `app_commands` and `app_networks` call it.
 pub fn path_file_id(rt: &impl Files, path: &str) -> Option<FileId> {
     match fs::metadata(rt, path) {
         Ok(metadata) => Some(metadata_file_id(&metadata)),
@@ -108,8 +107,8 @@ fn metadata_file_id(metadata: &Metadata) -> FileId {
     }
 }
 
-/// Whether both files are known and identical. An unknown file (`None`) equals no file. `is_same_folder` and `wire_to_output` of
-/// `app_commands` call it.
+/// Returns whether both files are known and identical. An unknown file (`None`) equals no file. `create_apart` and `refuse_same_folder`
+/// call it.
 pub fn is_same_file(one: Option<FileId>, other: Option<FileId>) -> bool
     ensures { IsTrue result ↔ IsSameFile one other }
 {
@@ -134,7 +133,7 @@ pub fn add_file(files: &mut Vec<FileId>, file: Option<FileId>) -> Result<(), NoM
     }
 }
 
-/// Whether the file is in the list. Returns false for an unknown file (`None`). `note_new`, `is_in_use` and others call it.
+/// Returns whether the file is in the list. Returns false for an unknown file (`None`). `note_new`, `refuse_in_use` and others call it.
 pub fn has_file(files: &[FileId], file: Option<FileId>) -> bool
     ensures { IsTrue result ↔ HasFile files.now file }
 {
@@ -153,7 +152,7 @@ pub enum Said {
     Noted(String),
 }
 
-/// Whether an argument stands for standard input or output. Functions of `app_commands` and `app_networks` call it.
+/// Returns whether an argument stands for standard input or output. Functions of `app_commands` and `app_networks` call it.
 pub fn is_standard(word: &str) -> bool
     ensures { IsTrue result ↔ IsStandard word.now }
 {

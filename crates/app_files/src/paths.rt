@@ -27,7 +27,7 @@ pub fn report_path<A: Allocator + Copy>(alloc: A, folder: &str) -> Result<String
     Ok(format!(in alloc; "{folder}/report.txt")?)
 }
 
-/// Refuses an empty folder path. The fault names the empty path.
+/// Refuses an empty path of the input folder or the output folder. The file fault names the empty path.
 ///
 /// Each command with an input and an output folder calls this first. Otherwise the files of a folder with an empty path would lie at the
 /// root of the file system: `/1.pcap`.

@@ -23,7 +23,7 @@ pub enum ReadFault {
     NoMemory,
 }
 
-/// Reads at most `most` octets of a reader. Repeats an interrupted read. `read_text`, and `explain_capture` and `text_job` of
+/// Reads at most `most` octets of a reader. Repeats an interrupted read. `read_text` and `read_standard`, and `explain_capture` of
 /// `app_commands` call it.
 pub fn read_at_most<R: Read + Drop, A: Allocator>(
     alloc: A,
@@ -40,7 +40,7 @@ pub fn read_at_most<R: Read + Drop, A: Allocator>(
     }
 }
 
-/// Reads at most `MOST_TEXT` octets of a reader: a plan, commands, traffic or a network. Functions of `app_commands`, `app_failure` and
+/// Reads at most `MOST_TEXT` octets of a reader: a plan, commands, traffic or a network. `read_named`, and functions of `app_commands` and
 /// `net_latency` call it.
 pub fn read_text<R: Read + Drop, A: Allocator>(alloc: A, reader: R) -> Result<Vec<u8, A>, ReadFault>
     ensures { (octets : List ℕ) → R.remaining reader ≡ Some octets
@@ -49,8 +49,8 @@ pub fn read_text<R: Read + Drop, A: Allocator>(alloc: A, reader: R) -> Result<Ve
     read_at_most(alloc, reader, MOST_TEXT)
 }
 
-/// Reads at most `MOST_TEXT` octets of a reader. A fault names `path`, the reader's file. `read_commands` and `read_plan` of `app_failure`,
-/// and `read_rows` of `net_latency` call it.
+/// Reads at most `MOST_TEXT` octets of a reader. A file fault names `path`, the reader's file. `read_commands` and `read_plan` of
+/// `app_failure`, and `read_rows` of `net_latency` call it.
 pub fn read_named<R: Read + Drop, A: Allocator>(
     alloc: A,
     heap: Global,
@@ -68,7 +68,7 @@ pub fn read_named<R: Read + Drop, A: Allocator>(
     }
 }
 
-/// Reads at most `most` octets of standard input. A fault names the path `-`. `read_standard_text` of `app_commands` calls it.
+/// Reads at most `most` octets of standard input. A file fault names the path `-`. `read_standard_text` of `app_commands` calls it.
 pub fn read_standard<R: Read + Drop>(
     alloc: Global,
     reader: R,

@@ -13,7 +13,7 @@ use std::io;
 use std::io::Write;
 
 /// Writes `octets` as the whole contents of an output file, and returns the file. Callers get the file only after a successful write. A
-/// fault names `path`.
+/// file fault names `path`.
 pub fn write_file<F: Write + OpenFile + Drop>(
     alloc: Global,
     path: &str,
@@ -84,9 +84,9 @@ fn finish_flushed<F: Write + OpenFile + Drop>(output: Output<F>) -> io::Result<O
     output.finish()
 }
 
-/// Gives up an output file after a failed write, and returns its fault, which names `path`.
+/// Drops an output file after a failed write, and returns a file fault that names `path`.
 ///
-/// For two files that are written together: only their writer knows which of them failed. `give_up_table` of `app_networks` calls it.
+/// Two tables are written together, and only their writer knows which one failed. `give_up_table` of `app_networks` calls it.
 pub fn give_up_file<F: Write + OpenFile + Drop>(
     alloc: Global,
     path: &str,
@@ -117,7 +117,7 @@ pub trait Content {
         ensures { IfOk result (λ done. Appends (W.contents writer) (W.contents done) (octets self.now)) };
 }
 
-/// Writes `content` as the whole contents of an output file, and returns the file. A fault names `path`.
+/// Writes `content` as the whole contents of an output file, and returns the file. A file fault names `path`.
 pub fn write_content<F: Write + OpenFile + Drop, C: Content>(
     alloc: Global,
     path: &str,
@@ -138,7 +138,7 @@ pub fn write_content<F: Write + OpenFile + Drop, C: Content>(
     }
 }
 
-/// Writes `text` to the writer of standard output, and returns the flushed writer. A fault names the path `-`. `write_stdout_text` of
+/// Writes `text` to the writer of standard output, and returns the flushed writer. A file fault names the path `-`. `write_stdout_text` of
 /// `app_commands` calls it.
 pub fn write_standard<W: Write + Drop>(alloc: Global, writer: W, text: &str) -> Result<W, FileFault>
     ensures written { IfOk result (λ done. Appends (W.contents writer) (W.contents done) text.now) }
@@ -160,7 +160,7 @@ fn write_text<W: Write + Drop>(writer: W, text: &str) -> io::Result<W>
     Ok(writer)
 }
 
-/// Prints `text` to standard output. A fault names the path `-`.
+/// Prints `text` to standard output. A file fault names the path `-`.
 pub fn print_text(rt: &(impl AllocGlobal + Print), text: &str) -> Result<(), FileFault>
     ensures { IfErr result (IsOfPath Writing (codes "-")) }
 {
@@ -170,10 +170,10 @@ pub fn print_text(rt: &(impl AllocGlobal + Print), text: &str) -> Result<(), Fil
     }
 }
 
-/// Returns the fault of standard output, the file `-`, after a failed write.
+/// Returns the file fault of standard output, the file `-`, after a failed write.
 ///
-/// A run through one queue writes to standard output as its only port, so its own fault has no path. `write_standard` and `print_text`, and
-/// `output_fault` of `app_commands` call it.
+/// A run through one queue writes to standard output as its only port, so the run's own fault has no path. `write_standard` and
+/// `print_text`, and `output_fault` of `app_commands` call it.
 pub fn standard_output_fault(alloc: Global) -> FileFault
     ensures { IsOfPath Writing (codes "-") result }
 {

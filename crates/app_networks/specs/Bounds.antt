@@ -1,4 +1,4 @@
--- Outputs, exit statuses and faults of the command `bounds`.
+-- Outputs, exit statuses and failures of the command `bounds`.
 use Rattle.std.specs.Prelude.{◌≡◌, ◌⊎◌, ◌&&◌, ◌||◌, ◌++◌, ℕ, Bool, true, false, not, List, [], None, Some, Option, String, is_some, string_bytes}
 use Rattle.std.specs.declared.alloc.Global.{Global}
 use Rattle.bridge_config.specs.Model.{Plan}
@@ -43,8 +43,8 @@ warnings_text (Some unprotected) shared = string_bytes unprotected ++ shared
 abbrev pub status_by : Bool → Bool → Bool → ℕ
 status_by kept strict warned = status_if (kept && not (strict && warned))
 
--- Holds if the program prints the delay bounds of the accepted plan in `input`, and its warnings, if any, to standard error. The status is 1 exactly if warnings
--- are errors and there is one.
+-- Holds if the program prints the delay bounds of the accepted plan in `input`, and its warnings, if any, to standard error. The status is
+-- 1 exactly if warnings are errors and there is one.
 abbrev pub IsBoundsOutputOf : List ℕ → Bool → Bool → Output → Type 0
 IsBoundsOutputOf input strict explained output =
     (lines : List ℕ) × (unprotected : Option (String Global)) × (shared : List ℕ) × PrintsBounds Global input lines
@@ -54,8 +54,8 @@ IsBoundsOutputOf input strict explained output =
 abbrev pub IsBoundsOutput : Bool → Bool → Output → Type 0
 IsBoundsOutput strict explained output = (input : List ℕ) × IsBoundsOutputOf input strict explained output
 
--- Holds if `bounds --traffic` prints this output for these texts of plan and traffic. Standard error has reasons, then warnings. The status is 0 exactly if all
--- traffic is kept without a warning as error.
+-- Holds if `bounds --traffic` prints this output for these texts of plan and traffic. Standard error has reasons, then warnings. The status
+-- is 0 exactly if all traffic is kept without a warning as error.
 abbrev pub IsTrafficOutputOf : List ℕ → List ℕ → Bool → Bool → Output → Type 0
 IsTrafficOutputOf input words strict explained output =
     (lines : List ℕ) × (kept : Bool) × (reasons : List ℕ) × (unprotected : Option (String Global)) × (shared : List ℕ)
@@ -66,11 +66,11 @@ IsTrafficOutputOf input words strict explained output =
 abbrev pub IsTrafficOutput : Bool → Bool → Output → Type 0
 IsTrafficOutput strict explained output = (input : List ℕ) × (words : List ℕ) × IsTrafficOutputOf input words strict explained output
 
--- Holds if fault `f` can end the bounds of a plan with traffic: an unreadable file, out of memory, or a fault of plan or traffic.
+-- Holds if failure `f` can end the bounds of a plan with traffic: an unreadable file, out of memory, or a refused plan or traffic.
 abbrev pub FailsTraffic : List ℕ → List ℕ → Failure → Type 0
 FailsTraffic plan file f = ((input : List ℕ) × (words : List ℕ) × EndsTexts Global plan input file words f) ⊎ (IsFileFault Reading plan f ⊎ IsFileFault Reading file f)
 
--- Holds if fault `f` can end `bounds --traffic` over the files at `plan` and `file`: one of them can't be read, or `f` is a fault of their texts.
+-- Holds if failure `f` can end `bounds --traffic` over the files at `plan` and `file`: one can't be read, or its text is refused.
 abbrev pub FailsTrafficAt : (List ℕ → Option (List ℕ)) → List ℕ → List ℕ → Failure → Type 0
 FailsTrafficAt octets_at plan file f =
     HasTextAt octets_at plan (λ input. HasTextAt octets_at file (λ words. EndsTexts Global plan input file words f)) ⊎ (IsFileFault Reading plan f ⊎ IsFileFault Reading file f)

@@ -1,4 +1,4 @@
--- The command `net`: inputs of the bridges, faults, and the printed line of a network run.
+-- The command `net`: inputs of the bridges, failures, and the printed line of a network run.
 use Rattle.std.specs.Prelude.{◌≡◌, ◌⊎◌, ℕ, ◌-◌, ◌^◌, List, [], ◌∷◌, ◌++◌, Err, None, Option, Some, length, slice_get, codes, decimal, string_bytes}
 use Rattle.bridge_config.specs.Document.{text_commands}
 use Rattle.bridge_config.specs.Model.{Plan}

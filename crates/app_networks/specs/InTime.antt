@@ -20,15 +20,16 @@ use Rattle.net_report.specs.SourceFrames.{ArrivedOverLink, IsCopyOfKnownFrame, I
 
 -- THE ROUTE OF A FRAME
 
--- Holds if frame `k` (from 0) of hop `i` arrived over a link: as a copy of another hop's frame, for which `Known` holds. The leg has the
--- index of that hop and the delay of the link.
+-- Holds if frame `k` (from 0) of hop `i` arrived over a link: as a copy of another hop's frame, for which `Known` holds. `leg` has the
+-- index of that hop and the link's delay.
 pub record IsCopyOverRouteHop {A : Type 0} (links : List Link) (hops : List (HopRun A)) (leg : ℕ × ℕ) (Known : ℕ → ℕ → Type 0) (i k : ℕ) : Type 0 where
   pub behind : IsCopyOfKnownFrame links hops Known i k
   pub place : behind.place ≡ leg.0
   pub delay : behind.over.from.delay ≡ leg.1
 
--- Holds if frame `k`, counted from 0, of the hop at index `i` comes from frame `r` of the first hop. The legs have the earlier hops and
--- the links, the last ones first.
+-- Holds if frame `k`, counted from 0, of the hop at index `i` comes from frame `r` of the first hop.
+--
+-- A leg has the index of an earlier hop and the delay of the link after it; the last leg comes first.
 abbrev pub HasSourceOverRoute : {A : Type 0} → List Link → List (HopRun A) → SourceFrame → List (ℕ × ℕ) → ℕ → ℕ → Type 0
 HasSourceOverRoute links hops r [] i k = IsFirstHopFrame hops i k r
 HasSourceOverRoute links hops r (leg ∷ legs) i k = IsCopyOverRouteHop links hops leg (HasSourceOverRoute links hops r legs) i k

@@ -31,7 +31,7 @@ has_lines text = not (nat_eq (length text) 0)
 abbrev pub place_words : List Bridge → ℕ × ℕ → List ℕ
 place_words bridges hop = bridge_name bridges hop.0 ++ (codes "." ++ (decimal hop.1 ++ codes " "))
 
--- The exit status of a run without another fault: 1 if a warning or a loss is an error, otherwise 0.
+-- The exit status of a run that doesn't fail: 1 if a warning or a loss is an error, otherwise 0.
 abbrev pub status_of : Bool → Bool → ℕ
 status_of warned lossy = if warned || lossy then 1 else 0
 

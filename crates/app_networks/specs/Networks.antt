@@ -1,4 +1,4 @@
--- Outputs, exit statuses and faults of the commands for networks.
+-- Outputs, exit statuses and failures of the commands for networks.
 use Rattle.std.specs.Prelude.{◌≡◌, ◌⊎◌, ◌++◌, ◌&&◌, ℕ, Bool, true, false, not, List, [], String, is_some, string_bytes}
 use Rattle.std.specs.declared.alloc.Global.{Global}
 use Rattle.app_failure.specs.declared.fault.Failure.{Failure}
@@ -42,8 +42,8 @@ IsOutputOfRun s explained output =
     (string_bytes output.stdout ≡ line_if s.line) × IsWithRounds (string_bytes s.told) (explained && is_some s.line) (string_bytes output.stderr)
     × (output.status ≡ status_of s.is_warned s.is_lossy)
 
--- Holds if the program prints the line of a complete network run, and lines of lost and late streams if losses are errors. The status is 1 exactly if there are
--- such lines.
+-- Holds if the program prints the line of a complete network run, and lines of lost and late streams if losses are errors. The status is 1
+-- exactly if there are such lines.
 abbrev pub IsDoneRun : Bool → Bool → Output → Type 0
 IsDoneRun strict explained output =
     (line : List ℕ) × (lost : List ℕ) × (rounds : ℕ) × PrintsRunLosses Global strict line rounds lost × (string_bytes output.stdout ≡ line)

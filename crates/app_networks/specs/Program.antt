@@ -100,11 +100,12 @@ FailsRequest r f = FailsJob r.job r f
 
 -- THE PROGRAM
 
--- Holds if the program prints the output of a request's command, or reports a fault that can end this command.
+-- Holds if the program prints the output of a request's command, or reports a failure that can end this command.
 abbrev pub IsOutputOf : Request → Output → Type 0
 IsOutputOf r output = PerformsRequest r output ⊎ ((f : Failure) × FailsRequest r f × Reports r.is_explained f output)
 
--- Holds if the program prints only its help or version: the arguments request that and no command. The status is 4, as for other arguments without a command.
+-- Holds if the program prints only its help or version: the arguments request that and no command. The status is 4, as for other arguments
+-- without a command.
 abbrev pub IsHelpOutput : List Text → Output → Type 0
 IsHelpOutput words output = IsHelp (fault_of commands words) × (((job : Command) → ¬ AsksFor words job) × ((text : List ℕ) × Prints text [] 4 output))
 
@@ -112,7 +113,7 @@ IsHelpOutput words output = IsHelp (fault_of commands words) × (((job : Command
 abbrev pub IsRefusal : List Text → Output → Type 0
 IsRefusal words output = (f : Failure) × RefusesWords words f × Reports (explains words) f output
 
--- Holds if the program prints the output for the arguments: help, the fault of refused arguments, or the output of the requested command.
+-- Holds if the program prints the output for the arguments: help, the failure of refused arguments, or the output of the requested command.
 abbrev pub IsOutput : List Text → Output → Type 0
 IsOutput words output = IsHelpOutput words output ⊎ (IsRefusal words output ⊎ ((r : Request) × IsRequest words r × IsOutputOf r output))
 

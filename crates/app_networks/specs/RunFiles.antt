@@ -1,4 +1,4 @@
--- The files of a network run. A fault of a file names one of them.
+-- The files of a network run. A failure of a file names one of them.
 use Rattle.std.specs.Prelude.{◌≡◌, ◌⊎◌, ◌++◌, ℕ, false, List, Option, None, Some, codes, is_some, map, slice_get, string_bytes}
 use Rattle.bridge_limits.specs.Members.{IsMember}
 use Rattle.bridge_config.specs.Model.{Plan}
@@ -17,7 +17,7 @@ use Rattle.app_files.specs.FailedFiles.{IsCapture}
 use Rattle.app_files.specs.Paths.{capture_path, report_path}
 use Rattle.app_networks.specs.OutputFiles.{folder_path}
 
--- Holds if the fault names one of these files, which was used in this way, or memory ran out.
+-- Holds if the failure names one of these files, with this access, or memory ran out.
 abbrev pub NamesFile : Access → (List ℕ → Type 0) → Failure → Type 0
 NamesFile access files (fault.File e) = (e.access ≡ access) × files (string_bytes e.path)
 NamesFile access files fault.NoMemory = Unit {0}
@@ -78,8 +78,8 @@ IsWrittenFile plans bridges output picture path = IsOutputFile plans bridges out
 
 -- THE RUN
 
--- Holds if a fault of a file can end the run of a network between two folders: one folder has an empty path, an input wasn't read, or an output or the picture
--- wasn't written.
+-- Holds if a failed file can end the run of a network between two folders. One folder has an empty path, an input wasn't read, or an output
+-- or the picture wasn't written.
 abbrev pub FailsRunFiles : {A : Type 0} → NetworkParts A → List Bridge → List ℕ → List ℕ → Option (List ℕ) → Failure → Type 0
 FailsRunFiles n bridges input output picture f =
     LacksPath input output f ⊎ (NamesFile Reading (IsInputFile n.links n.plans bridges input) f ⊎ NamesFile Writing (IsWrittenFile n.plans bridges output picture) f)

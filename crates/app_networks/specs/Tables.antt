@@ -44,7 +44,8 @@ abbrev pub WriteStreams : {A : Type 0} → List Link → List (BridgeResult A) �
 WriteStreams links settled bridges ss figures streams more_streams texts more_texts =
     (rows : List ℕ) × (lines : List ℕ) × AreRows links settled bridges ss figures rows lines × Appends streams more_streams rows × Appends texts more_texts lines
 
--- Holds if `streams` and `frames` are the two tables of a network run. Each begins with its header, followed by the rows of all streams in file order.
+-- Holds if `streams` and `frames` are the two tables of a network run. Each begins with its header, followed by the rows of all streams in
+-- file order.
 pub record AreTables {A : Type 0} (links : List Link) (settled : List (BridgeResult A)) (f : file.Network) (figures : List StreamFigures) (streams frames : List ℕ) : Type 0 where
   pub rows : List ℕ
   pub lines : List ℕ

@@ -85,7 +85,7 @@ fn warnings_if(alloc: Global, text: &[u8], flags: Flags) -> Result<BoundsWarning
     })
 }
 
-/// Returns the warnings of a text that was accepted as a plan before. It checks the text again, so a fault can only mean that memory ran
+/// Returns the warnings of a text that was accepted as a plan before. It checks the text again, so a failure can only mean that memory ran
 /// out. `warnings_if` calls it.
 fn text_warnings(alloc: Global, text: &[u8]) -> Result<BoundsWarnings, NoMemory>
     ensures { IfOk result (λ w. WarnsOfText text.now w.unprotected (string_bytes w.shared)) }
@@ -113,7 +113,7 @@ fn plan_warnings(alloc: Global, accepted: &Accepted<Global>) -> Result<BoundsWar
     })
 }
 
-/// Whether `warnings` has at least one warning. `bounds_output` calls it.
+/// Returns whether `warnings` has at least one warning. `bounds_output` calls it.
 fn is_warned(warnings: &BoundsWarnings) -> bool
     ensures { result ≡ is_warned warnings.now.unprotected (string_bytes warnings.now.shared) }
 {
@@ -199,7 +199,7 @@ pub(crate) fn bound_traffic<H: AllocGlobal + Files, F: ReadFiles>(
     }
 }
 
-/// Returns the output of `bounds --traffic` for the plan in `text` and the traffic of reader `rows`. Faults name the paths `plan` and
+/// Returns the output of `bounds --traffic` for the plan in `text` and the traffic of reader `rows`. Failures name the paths `plan` and
 /// `file`. `bound_traffic` calls it.
 fn bound_rows<R: Read + Drop, H: AllocGlobal + Files>(
     rt: &H,

@@ -25,7 +25,7 @@ fn draw_with_bounds(
 }
 
 /// Returns the picture of an accepted network as SVG text of at most 2,000,000 octets: bridges, links, and streams with their delay bounds.
-/// Its faults are the faults of `network_job`. `draw_network` calls it.
+/// Its failures are the failures of `network_job`. `draw_network` calls it.
 pub fn network_picture<F: ReadFiles>(
     alloc: Global,
     files: &mut F,

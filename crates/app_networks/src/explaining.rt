@@ -18,8 +18,8 @@ const OF_PLAN: &str = "network refused: Plan ";
 /// Start of the fault line of a network whose commands for one bridge are refused. The bridge's name follows.
 const OF_COMMANDS: &str = "network refused: Commands ";
 
-/// Explains why traffic is refused: for its text, or by the plan. Returns `None` if a file can't be read again or memory runs out.
-/// `explain_traffic_fault` calls it.
+/// Explains why traffic is refused: its text has a fault, or a row doesn't suit the plan. Returns `None` if a file can't be read again or
+/// memory runs out. `explain_traffic_fault` calls it.
 pub(crate) fn explain_refused_traffic(
     rt: &(impl AllocGlobal + Files),
     plan: &str,

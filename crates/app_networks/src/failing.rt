@@ -83,7 +83,7 @@ fn explain_traffic_fault<H: AllocGlobal + Files>(
     }
 }
 
-/// Explains why a file couldn't be read. If the cause is unknown, it examines the file to find one. `explain_traffic_fault` calls it.
+/// Explains why a file couldn't be read. If the cause is unknown, examines the file to find one. `explain_traffic_fault` calls it.
 fn explain_unread<H: AllocGlobal + Files>(rt: &H, error: &FileError) -> Option<String> {
     let cause = match error.cause() {
         Cause::Unknown => unreadable_cause(rt, error.path()),

@@ -34,7 +34,7 @@ fn read_file<F: ReadFiles>(files: &mut F, path: &str, most: u64) -> Result<Vec<u
     }
 }
 
-/// Reads the capture of port `port` from a bridge's folder. A missing file is a fault. `read_captures` calls it.
+/// Reads the capture of port `port` from a bridge's folder. Returns a failure if the file is missing. `read_captures` calls it.
 fn read_capture<F: ReadFiles>(
     alloc: Global,
     files: &mut F,
@@ -139,7 +139,7 @@ fn read_bridge_input<F: ReadFiles>(
     Ok(BridgeInput { commands, captures })
 }
 
-/// Name of a bridge, which faults show, and its folder in the input.
+/// Name of a bridge, which failures show, and its folder in the input.
 #[derive(Clone, Copy)]
 struct Place<'a> {
     /// Name of the bridge.
@@ -148,7 +148,7 @@ struct Place<'a> {
     folder: &'a str,
 }
 
-/// Reads the input of each bridge from its folder in `input`. Returns the first fault: by bridge, then by rising port, with the bridge's
+/// Reads the input of each bridge from its folder in `input`. Returns the first failure: by bridge, then by rising port, with the bridge's
 /// commands last. `read_bridge_inputs` calls it.
 fn read_inputs_of_plans<F: ReadFiles>(
     alloc: Global,

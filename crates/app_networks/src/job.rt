@@ -37,8 +37,8 @@ use std::rt::Files;
 /// it might never end.
 const MOST_ROUNDS: u32 = 64;
 
-/// Returns the largest number of rounds of a network run. Without forwarding loops there is no need for a limit, because each round settles
-/// the inputs up to a later time.
+/// Returns the largest number of rounds of a network run. Without forwarding loops it is 2^32 - 1, because each round settles the inputs up
+/// to a later time.
 fn most_rounds(alloc: Global, network: &Network<Global>) -> Result<u32, NoMemory>
     requires few { length network.now.plans ≤ 64 }
     ensures { IfOk result (IsMostRounds network.now) }
@@ -348,7 +348,7 @@ impl NetworkRunResult {
     ghost use Rattle.std.specs.Prelude.{◌≡◌};
     ghost use Rattle.app_networks.specs.Losing.{status_of};
 
-    /// Returns the exit status: 1 if a warning or a loss is an error, otherwise 0. `output_of_run` needs it.
+    /// Returns the exit status: 1 if a warning or a loss is an error, otherwise 0. `output_of_run` calls it.
     pub fn status(&self) -> u8
         ensures { result ≡ status_of self.now.is_warned self.now.is_lossy }
     {

@@ -118,8 +118,8 @@ pub fn ranked_route_goes_once<A: Allocator + Copy>()
         → GoesOnce i legs }
 {}
 
-/// In a complete run of one bridge over captures, each frame leaves within the tight bound of its queue. Captured octets never exceed a
-/// frame's length, so `in_time_by_octets` applies.
+/// In a complete run of one bridge over captures, each frame whose filter has a tight bound for its queue leaves within this bound.
+/// Captured octets never exceed a frame's length, so `in_time_by_octets` applies.
 ///
 /// So bounds by octets hold for each run of `run`.
 pub fn read_in_time_by_octets<A: Allocator + Copy, W>()
@@ -137,7 +137,8 @@ pub fn read_in_time_by_octets<A: Allocator + Copy, W>()
         → s + transmission_time x.item.len out.speed ≤ x.at + b }
 {}
 
-/// In a complete run of one bridge over captures, each frame leaves within its queue's printed bound (`bound`).
+/// In a complete run of one bridge over captures, each frame whose filter has a printed bound for its queue leaves within this bound
+/// (`bound`).
 ///
 /// If all frames have at least 60 octets, they leave within the bound after the word `padded` (`padded`). So bounds that `bounds` prints
 /// hold for each run of `run`.

@@ -97,8 +97,8 @@ fn put_stream_lines(
     Ok(())
 }
 
-/// Returns the lines of all streams with lost frames or missed deadlines, in file order. Traces all frames again, so only `--strict` calls
-/// it.
+/// Returns the lines of all streams with lost frames or missed deadlines, in file order. Traces all frames again, so `lost_if` calls it
+/// only with `--strict`.
 pub(crate) fn fault_lines(
     alloc: Global,
     file: &NetworkFile<Global>,

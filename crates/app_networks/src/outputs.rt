@@ -30,7 +30,7 @@ pub(crate) struct BridgeOutputs<F: Write + OpenFile + Drop> {
     pub(crate) report: Output<F>,
 }
 
-/// Open output files of a network run: those of each bridge, and the tables of streams and frames.
+/// Open output files of a network run: the files of each bridge, and the tables of streams and frames.
 #[derive(Drop)]
 pub(crate) struct Outputs<F: Write + OpenFile + Drop> {
     pub(crate) bridges: Vec<BridgeOutputs<F>>,
@@ -186,7 +186,7 @@ fn open_bridges<H: AllocGlobal + Files>(
 /// Opens all outputs of a network run, in a folder for each bridge, and creates missing folders. Outputs keep their contents until they are
 /// written.
 ///
-/// Faults come by bridge: folder, captures by rising port, report; the tables come last. `open_run` calls it.
+/// Returns the first failure by bridge: folder, captures by rising port, report; then the failures of the tables. `open_run` calls it.
 pub(crate) fn open_outputs<H: AllocGlobal + Files>(
     files: &mut CommandFiles<'_, H>,
     plans: &[Accepted<Global>],

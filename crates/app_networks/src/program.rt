@@ -51,7 +51,8 @@ fn help_output(alloc: Global, text: String) -> Output
     }
 }
 
-/// Reads the request from the arguments, and returns its output. Refused arguments give their fault and the usage. `perform` calls it.
+/// Reads the request from the arguments, and returns its output. If the arguments are refused, returns the output of this failure.
+/// `perform` calls it.
 fn perform_request<H: Input + AllocGlobal + Clock + Print + Eprint + Files>(
     rt: &H,
     words: &[String],
@@ -175,8 +176,7 @@ fn run_request<H: Input + AllocGlobal + Clock + Print + Eprint + Files>(
     }
 }
 
-/// Returns the output of `bounds`, with traffic or without. `run_request`, `is_sufficient` of `bridge_groups`, and `push_padded_figure` of
-/// `net_latency` call it.
+/// Returns the output of `bounds`, with traffic or without. `run_request` calls it.
 fn bound<H: AllocGlobal + Files>(
     files: &mut CommandFiles<'_, H>,
     plan: &String,

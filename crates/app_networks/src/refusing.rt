@@ -1,4 +1,4 @@
-//! Faults of a network run, with the names of its bridges.
+//! Failures of a network run, with the names of its bridges.
 ghost use Rattle.std.specs.Prelude.{◌≡◌, IfOk, string_bytes};
 ghost use Rattle.net_check.specs.Naming.{bridge_name};
 ghost use Rattle.app_networks.specs.Folders.{IsCaptureLine, SaysCommands, IsStoppedRunFault, unsettled_line};
@@ -32,7 +32,8 @@ pub(crate) fn bridge_commands_fault(alloc: Global, name: &str, fault: PlanFault)
     }
 }
 
-/// Returns the name of the bridge with index `bridge`, or an empty text. `read_inputs_of_plans`, `hop_prefix` and others call it.
+/// Returns the name of the bridge with index `bridge`, from 0, or an empty text if it is missing. `read_inputs_of_plans`, `hop_prefix` and
+/// others call it.
 pub(crate) fn bridge_name(bridges: &[BridgeRow<Global>], bridge: usize) -> &str
     ensures { result.now ≡ bridge_name bridges.now bridge }
 {

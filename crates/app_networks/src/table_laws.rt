@@ -18,8 +18,8 @@ ghost use Rattle.app_networks.specs.Tables.{AreTables};
 
 use std::alloc::Allocator;
 
-/// Other frames and commands change no table. Two complete runs of an accepted network have equal tables if the external frames and
-/// commands of the streams' own filters are equal. docs/NETWORK_PROOF.md cites it.
+/// Other frames and commands change no table. Two complete runs of an accepted network have equal tables if the streams' own external
+/// frames and commands are equal. docs/NETWORK_PROOF.md cites it.
 pub fn others_change_no_table<A: Allocator + Copy>()
     ensures { (f : file.Network) (plans : List (Plan A)) (n : NetworkParts A) (came other_came : List (BridgeInput A))
         (settled other : List (BridgeResult A)) (figures : List StreamFigures) (a b c d : List ℕ)

@@ -52,7 +52,8 @@ fn hop_run<'a>(settled: &'a [BridgeResult<Global>], hop: (u16, u32)) -> HopRun<'
     }
 }
 
-/// Returns the records of a stream's hops, in file order. `put_stream_rows`, `include_streams` and `put_all_streams` call it.
+/// Returns the records of a stream's hops, in file order. `put_stream_lines`, `put_stream_rows`, `include_streams` and `put_all_streams`
+/// call it.
 pub(crate) fn hop_runs<'a>(
     alloc: Global,
     settled: &'a [BridgeResult<Global>],
@@ -175,7 +176,7 @@ fn write_both_tables<V: Write, W: Write>(
     Ok(totals)
 }
 
-/// Writes both tables: each begins with its header, followed by the rows of all streams in file order. `put_files` calls it.
+/// Writes both tables: each begins with its header, followed by the rows of all streams in file order. `put_tables` calls it.
 pub(crate) fn write_tables<V: Write, W: Write>(
     alloc: Global,
     file: &NetworkFile<Global>,
@@ -229,7 +230,7 @@ pub(crate) struct WrittenTables<F: Write + OpenFile + Drop> {
     pub frames: Output<F>,
 }
 
-/// Gives up the table `name` in `folder` after a failed write, and returns the program's fault. `give_up_tables` calls it.
+/// Drops the table `name` in `folder` after a failed write, and returns the command's failure. `give_up_tables` calls it.
 fn give_up_table<F: Write + OpenFile + Drop>(
     alloc: Global,
     folder: &str,
@@ -247,8 +248,8 @@ fn give_up_table<F: Write + OpenFile + Drop>(
     }
 }
 
-/// Gives up both tables in `folder` after a failed write, and returns the program's fault. It names the table that `fault` means.
-/// `put_tables` calls it.
+/// Drops both tables in `folder` after a failed write, and returns the command's failure. It names the table in `fault`. `put_tables` calls
+/// it.
 fn give_up_tables<F: Write + OpenFile + Drop>(
     alloc: Global,
     folder: &str,

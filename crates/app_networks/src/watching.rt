@@ -59,7 +59,7 @@ fn capture_octets(captures: &[Vec<u8>]) -> u64 {
     octets
 }
 
-/// Whether a network's run may be long: its input captures have at least `LONG_INPUT` octets. `new` calls it.
+/// Returns whether a network's run may be long: its input captures have at least `LONG_INPUT` octets. `new` calls it.
 fn is_long_run(incoming: &[BridgeInput<Global>]) -> bool {
     let mut octets = 0u64;
     for came in incoming {

@@ -24,8 +24,9 @@ use Rattle.bridge_semantics.specs.Offers.{egress_rules}
 use Rattle.bridge_bounds.specs.GateFrames.{AreTurnsApart, frames_below_room, max_list_frames}
 use Rattle.bridge_bounds.specs.Openings.{HaveCommonCycle, fills_at}
 
--- Holds if `k` frames of `occ` ns each, sent one after another from time `u`, end at time `v`. Each frame starts at the
--- first time at which it fits.
+-- Holds if `k` frames of `occ` ns each, which wait from time `u` and leave one after another, have left at time `v`.
+--
+-- Each frame starts at its first fit. The transmission gate is open when `opens` is true.
 abbrev pub FramesEnd : (ℕ → Bool) → ℕ → ℕ → ℕ → ℕ → Type 0
 FramesEnd opens occ zero u v = v ≡ u
 FramesEnd opens occ (suc k) u v = (w s : ℕ) × FramesEnd opens occ k u w × IsFirstFit opens occ w s × (v ≡ s + occ)
@@ -55,20 +56,22 @@ IsLongestTimeFrom lets opens occ late k d = (u : ℕ) → lets u ≡ true → (v
 abbrev pub IsTimeAttainedFrom : (ℕ → Bool) → (ℕ → Bool) → ℕ → ℕ → ℕ → ℕ → Type 0
 IsTimeAttainedFrom lets opens occ late k d = (u : ℕ) × (lets u ≡ true) × FramesEnd opens occ k (u + late) (u + late + d)
 
--- Holds if `d` ns is the longest time in which `k` frames leave after a time at which `lets` is true. They wait from
--- `occ` - 1 ns after that time on, when the frame on the link has left.
+-- Holds if `d` ns is the longest time in which `k` frames leave after a time at which `lets` is true.
+--
+-- The frames wait from `occ` - 1 ns after that time on, when the frame on the link has left.
 pub record IsOpeningsTime (lets opens : ℕ → Bool) (occ k d : ℕ) : Type 0 where
   pub longest : IsLongestTimeFrom lets opens occ (occ - 1) k d
   pub attained : IsTimeAttainedFrom lets opens occ (occ - 1) k d
 
--- Holds if frames that wait from some time need exactly `d` ns, so that no lesser time is a longest time. With a
--- schedule change, the statement always holds.
+-- Holds if `k` frames of class `c` and `occ` ns each, waiting from some time, need exactly `d` ns under the schedule.
+--
+-- So no lesser time is a longest time. With a schedule change, the statement always holds.
 abbrev pub IsLeastTime : GateSchedule → ℕ → ℕ → ℕ → ℕ → Type 0
 IsLeastTime Always c occ k d = IsTimeAttained (opens Always c) occ k d
 IsLeastTime (One l) c occ k d = IsTimeAttained (opens (One l) c) occ k d
 IsLeastTime (Changing j) c occ k d = Unit {0}
 
--- Holds if a frame fits at time `c` and doesn't fit 1 ns later.
+-- Holds if a frame of `occ` ns fits at time `c` and doesn't fit 1 ns later.
 pub record IsEdge (opens : ℕ → Bool) (occ c : ℕ) : Type 0 where
   pub fits : Fits opens occ c
   pub last : ¬ Fits opens occ (c + 1)
@@ -77,7 +80,8 @@ pub record IsEdge (opens : ℕ → Bool) (occ c : ℕ) : Type 0 where
 abbrev pub HaveShortFrames : {X : Type 0} → PortRules X → ℕ → ℕ → List (Copy X) → Type 0
 HaveShortFrames r c occ xs = (y : Copy _) → IsMember y xs → (y.class ≡ c) × (r.occ y.item ≤ occ)
 
--- Holds if a queue alone on its link has a copy that leaves `d` ns after its offer. All its copies have transmission times of at most `occ` ns.
+-- Holds if a queue alone on its link has a copy that leaves `d` ns after its offer. All its copies have transmission
+-- times of at most `occ` ns.
 pub record HasWorstCopy {X : Type 0} (r : PortRules X) (c occ d : ℕ) : Type 0 where
   pub copy : Copy X
   pub older : List (Copy X)
@@ -88,8 +92,8 @@ pub record HasWorstCopy {X : Type 0} (r : PortRules X) (c occ d : ℕ) : Type 0 
   pub started : copy.fate ≡ Started start
   pub done : start + r.occ copy.item ≡ copy.at + d
 
--- Holds if `b` ns is the longest time in which `k` longest frames leave, plus one transmission time, minus 1 ns. A longest frame has an SDU of `m` octets, but
--- at most 9,216 octets.
+-- Holds if `b` ns is the longest time in which `k` longest frames leave, plus one transmission time, minus 1 ns. A longest frame has `m` +
+-- 16 octets, but at most 9,216.
 pub record IsFramesBound {A : Type 0} (out : PortPlan A) (c m k b : ℕ) : Type 0 where
   pub longest : ℕ
   pub is_longest : IsLongestTime (lists_open out.list c) (transmission_time (longest_frame m) out.speed) k longest
@@ -100,29 +104,33 @@ pub record IsFramesBound {A : Type 0} (out : PortPlan A) (c m k b : ℕ) : Type 
 abbrev pub IsRoomBound : {A : Type 0} → PortPlan A → ℕ → ℕ → ℕ → Type 0
 IsRoomBound out c m b = IsFramesBound out c m ((egress_rules out).room c) b
 
--- Holds if `b` ns is the capacity bound of the class-`c` queue at port `out`, for frames that arrive while `lets` is true. It is a full
--- queue's longest time, plus one transmission time, minus 1 ns.
+-- Holds if `b` ns is the capacity bound of the class-`c` queue at port `out`, for frames that arrive while `lets` is true.
+--
+-- This bound is a full queue's longest time, plus one transmission time, minus 1 ns.
 pub record IsOpeningsBound {A : Type 0} (lets : ℕ → Bool) (out : PortPlan A) (c m b : ℕ) : Type 0 where
   pub longest : ℕ
   pub is : IsOpeningsTime lets (lists_open out.list c) (transmission_time (longest_frame m) out.speed) ((egress_rules out).room c) longest
   pub bound : b ≡ (transmission_time (longest_frame m) out.speed - 1) + longest
 
--- Holds if `b` ns is the delay bound under one list of the stream gate and one list of the port. With a common cycle, only times at which
--- `lets` is true count. Otherwise, or if `lets` is never true, all times count.
+-- Holds if `b` ns is the queue's delay bound under one list of the stream gate and one list of the port. With a common cycle, it assumes
+-- arrivals only while `lets` is true.
+--
+-- Without a common cycle, or if `lets` is never true, `b` assumes arrivals at any time.
 abbrev pub IsListBound : {A : Type 0} → cyclic.Cyclic GateEntry → cyclic.Cyclic ℕ → (ℕ → Bool) → PortPlan A → ℕ → ℕ → ℕ → Type 0
 IsListBound gate list lets out c m b =
     (HaveCommonCycle gate list × (IsOpeningsBound lets out c m b ⊎ (((u : ℕ) → lets u ≡ false) × IsRoomBound out c m b)))
     ⊎ ((¬ HaveCommonCycle gate list) × IsRoomBound out c m b)
 
--- Holds if `b` ns is the delay bound under one list of the stream gate. If the port has no list, or its list changes, all arrival times
--- count.
+-- Holds if `b` ns is the queue's delay bound under one list of the stream gate. If the port has no list, or its list changes, `b` assumes
+-- arrivals at any time.
 abbrev pub IsGateListBound : {A : Type 0} → cyclic.Cyclic GateEntry → Option (Egress A) → (ℕ → Bool) → PortPlan A → ℕ → ℕ → ℕ → Type 0
 IsGateListBound gate None lets out c m b = IsRoomBound out c m b
 IsGateListBound gate (Some (egress.Cyclic list)) lets out c m b = IsListBound gate list lets out c m b
 IsGateListBound gate (Some (egress.Joined j)) lets out c m b = IsRoomBound out c m b
 
--- Holds if `b` ns is the bound under the stream gate's schedule `s`, for a filter with the optional priority `priority`.
--- If the gate has a fixed state, or its list changes, all arrival times count.
+-- Holds if `b` ns is the queue's delay bound under the stream gate's schedule, for a filter with the optional priority `priority`.
+--
+-- If the gate has a fixed state, or its list changes, `b` assumes arrivals at any time.
 abbrev pub IsGateBound : {A : Type 0} → Schedule A → Option ℕ → PortPlan A → ℕ → ℕ → ℕ → Type 0
 IsGateBound (Fixed lets ipv) priority out c m b = IsRoomBound out c m b
 IsGateBound (Cyclic gate) priority out c m b = IsGateListBound gate out.list (fills_at out priority c gate) out c m b
@@ -151,8 +159,8 @@ LackCommonCycle (Cyclic gate) (Some (egress.Cyclic list)) = ¬ HaveCommonCycle g
 LackCommonCycle (Cyclic gate) (Some (egress.Joined j)) = ⊥
 LackCommonCycle (Joined j) lists = ⊥
 
--- Holds if the bounds of filter `n` at port `q` count all arrival times. The reason is that its stream gate's list and the port's list have
--- no common cycle.
+-- Holds if the delay bounds of filter `n` at port `q` assume arrivals at any time. The reason is that its stream gate's list and the port's
+-- list have no common cycle.
 pub record IsCoarse {A : Type 0} (p : Plan A) (n q : ℕ) : Type 0 where
   pub filter : FilterPlan
   pub gate : GatePlan A
@@ -174,15 +182,15 @@ pub record IsLesserBound {A : Type 0} (l : cyclic.Cyclic GateEntry) (out : PortP
   pub is : IsFramesBound out c m k few
   pub lesser : (AreTurnsApart (cyclic.turn_by_time l) is.longest × (b ≡ min a few)) ⊎ ((¬ AreTurnsApart (cyclic.turn_by_time l) is.longest) × (b ≡ a))
 
--- Holds if bound `b` equals bound `a`. If a single gate list passes fewer frames per interval than the queue's capacity, `b` may be lower: `IsLesserBound`
--- defines it.
+-- Holds if bound `b` equals bound `a`. If a single gate list passes fewer frames per interval than the queue's
+-- capacity, `b` may be lower: `IsLesserBound` defines it.
 abbrev pub IsTightenedBound : {A : Type 0} → Schedule A → PortPlan A → ℕ → ℕ → ℕ → ℕ → Type 0
 IsTightenedBound (Fixed lets ipv) out c m a b = b ≡ a
 IsTightenedBound (Cyclic l) out c m a b = MatchOption (frames_below_room ((egress_rules out).room c) (max_list_frames l.entries)) (b ≡ a) (λ k. IsLesserBound l out c m k a b)
 IsTightenedBound (Joined j) out c m a b = b ≡ a
 
--- Holds if `b` ns is the delay bound that `bounds` prints for the queue of class `c` at port `q`. The stream gate's octet limits may lower the bound by
--- capacity.
+-- Holds if `b` ns is the delay bound that `bounds` prints for the queue of class `c` at port `q`. The stream gate's
+-- octet limits may lower the bound by capacity.
 pub record IsTightBound {A : Type 0} (p : Plan A) (n q c b : ℕ) : Type 0 where
   pub by_room : ℕ
   pub is_bound : IsQueueBound p n q c by_room

@@ -26,7 +26,7 @@ just_enough = refl
 pub one_more : allows (Some 600) 601 ≡ false
 one_more = refl
 
--- A closed entry passes no frame, with any limit.
+-- A closed entry passes no frame, whatever its limit.
 pub closed : can_pass_entry (record { lets = false; ipv = Some 7; octets = None }) 60 ≡ false
 closed = refl
 

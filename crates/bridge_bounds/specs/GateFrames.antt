@@ -28,13 +28,13 @@ pass_times [] = []
 pass_times (Answered t n (Through ipv) ∷ ss) = t ∷ pass_times ss
 pass_times (s ∷ ss) = pass_times ss
 
--- Holds if each frame at the stream gate has at least two octets, the size of an EtherType.
+-- Holds if each frame at the stream gate has an SDU of at least two octets, the size of an EtherType.
 abbrev pub HaveEtherTypes : List GateEvent → Type 0
 HaveEtherTypes [] = Unit {0}
 HaveEtherTypes (Asked t n ∷ es) = (2 ≤ n) × HaveEtherTypes es
 HaveEtherTypes (e ∷ es) = HaveEtherTypes es
 
--- Holds if an octet limit is present and passes at most `k` frames of at least two octets.
+-- Holds if an octet limit is present and passes at most `k` frames with SDUs of at least two octets.
 abbrev pub IsFrameLimit : Option ℕ → ℕ → Type 0
 IsFrameLimit None k = ⊥
 IsFrameLimit (Some limit) k = limit / 2 ≤ k
@@ -45,8 +45,8 @@ abbrev pub AreTurnsApart : (ℕ → Option (Turn GateEntry)) → ℕ → Type 0
 AreTurnsApart turn_at w =
     (t u : ℕ) (x y : Turn GateEntry) → t < u → turn_at t ≡ Some x → turn_at u ≡ Some y → x.state.lets ≡ true → y.state.lets ≡ true → ¬ (x.start ≡ y.start) → t + w ≤ u
 
--- Holds if each open interval has an octet limit that passes at most `k` frames, and open intervals are separated by at
--- least `w` ns.
+-- Holds if each open interval has an octet limit that passes at most `k` frames. Times in different open intervals must
+-- be at least `w` ns apart.
 pub record LetsFew (turn_at : ℕ → Option (Turn GateEntry)) (k w : ℕ) : Type 0 where
   pub few : (t : ℕ) (x : Turn GateEntry) → turn_at t ≡ Some x → x.state.lets ≡ true → IsFrameLimit x.state.octets k
   pub apart : AreTurnsApart turn_at w

@@ -21,7 +21,7 @@ offer_time out o = link_time out o.item
 
 -- ONE WAIT
 
--- Holds if, at most `wait` ns after any time, a frame with transmission time `occ` fits.
+-- Holds if, at most `wait` ns after any time, a frame with transmission time `occ` fits the open times `opens`.
 abbrev pub FitsWithinWait : (ℕ → Bool) → ℕ → ℕ → Type 0
 FitsWithinWait opens occ wait = (t : ℕ) → (u : ℕ) × (t ≤ u) × (u ≤ t + wait) × Fits opens occ u
 
@@ -29,7 +29,9 @@ FitsWithinWait opens occ wait = (t : ℕ) → (u : ℕ) × (t ≤ u) × (u ≤ t
 abbrev pub IsPaced : ℕ → Offer → Offer → Type 0
 IsPaced gap a b = b.at + gap ≤ a.at
 
--- Holds if the offers in class `c` are at least `gap` ns apart. Each offer's transmission time is at most `occ` ns, and it fits at some time.
+-- Holds if the offers that the events `es` make in class `c` at port `out` are at least `gap` ns apart.
+--
+-- Each offer's transmission time is at most `occ` ns, and it fits at some time.
 pub record Conforms {A : Type 0} (p : Plan A) (out : PortPlan A) (c : ℕ) (es : List Event) (occ gap : ℕ) : Type 0
   where
     pub paced : IsOrdered (IsPaced gap) (class_offers c (port_offers p out es))
@@ -46,8 +48,10 @@ StartsWithinWait opens occ wait t f = (s : ℕ) × (f ≡ Started s) × IsFirstF
 abbrev pub IsMultiple : ℕ → ℕ → Type 0
 IsMultiple base p = (k : ℕ) × (p ≡ k * base)
 
--- Holds if the offers, newest first, have periods of their own, which begin at multiples of `base`, at least `period`
--- ns apart. They arrive at phases `from` to `upto` and take `least` to `most` ns.
+-- Holds if the offers, newest first, have periods of their own, which begin at multiples of `base`, at least `period` ns apart. The newest
+-- period ends by time `next`.
+--
+-- Each offer arrives at a phase from `from` to `upto`, and its transmission time `occ` is from `least` to `most` ns.
 abbrev pub OffersInPeriods : ℕ → (Offer → ℕ) → ℕ → ℕ → ℕ → ℕ → ℕ → ℕ → List Offer → Type 0
 OffersInPeriods base occ period from upto least most next [] = Unit {0}
 OffersInPeriods base occ period from upto least most next (o ∷ os) =
@@ -68,8 +72,8 @@ StartInPeriods base opens occ period first last next (x ∷ xs) =
     × StartsInPeriod opens (occ x.item) x.at first last p x.fate
     × StartInPeriods base opens occ period first last p xs
 
--- Holds if the inputs, newest first, arrive in periods of their own, between phases `from` and `upto`. Periods begin at
--- multiples of `base`, at least `period` ns apart.
+-- Holds if the inputs, newest first, arrive in periods of their own, between phases `from` and `upto`. Periods begin at multiples of
+-- `base`, at least `period` ns apart. The newest period ends by time `next`.
 abbrev pub InputsInPeriods : ℕ → ℕ → ℕ → ℕ → ℕ → List Input → Type 0
 InputsInPeriods base period from upto next [] = Unit {0}
 InputsInPeriods base period from upto next (x ∷ xs) =

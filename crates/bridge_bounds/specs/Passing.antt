@@ -1,4 +1,4 @@
--- Traffic that passes its filter with all its frames.
+-- Traffic of which a filter passes every frame.
 use Rattle.std.specs.Prelude.{◌≡◌, ℕ, Bool, true, false, not, ◌+◌, ◌-◌, ◌≤◌, ◌%◌, ◌&&◌, ◌||◌, Option, None, Some, List, nat_eq, nat_le, if◌then◌else◌}
 use Rattle.std.specs.List.{list_all}
 use Rattle.std.specs.Map.{lookup}
@@ -30,7 +30,8 @@ takes_only_tagged tag.All = false
 abbrev pub are_all_tagged : ℕ → List StreamEntry → Bool
 are_all_tagged h streams = list_all (λ e. not (nat_eq e.handle h) || takes_only_tagged e.tag) streams
 
--- The largest possible SDU in octets of a frame of `len` octets. It is `len` - 16 if all frames with the handle are tagged, otherwise `len` - 12.
+-- The largest possible SDU in octets of a frame of `len` octets. It is `len` - 16 if all frames with the handle are
+-- tagged, otherwise `len` - 12.
 abbrev pub longest_sdu : {A : Type 0} → Plan A → Option ℕ → ℕ → ℕ
 longest_sdu p None len = len - 12
 longest_sdu p (Some h) len = if are_all_tagged h p.streams then len - 16 else len - 12
@@ -58,8 +59,8 @@ is_limit_reset_in_time (Some limit) end until = nat_le end until
 abbrev pub CanPassTurns : (ℕ → Option (Turn GateEntry)) → ℕ → ℕ → ℕ → Type 0
 CanPassTurns turn_at from to sdu = (u : ℕ) (x : Turn GateEntry) → from ≤ u → u ≤ to → turn_at u ≡ Some x → can_pass_entry x.state sdu ≡ true
 
--- Holds if list `l` repeats with the period and passes a frame of `sdu` octets at each phase. An octet-limited interval at phase `t.to` ends before the next
--- frame.
+-- Holds if list `l` repeats with the period and passes a frame of `sdu` octets at each phase. An octet-limited interval
+-- at phase `t.to` ends before the next frame.
 pub record CanPassList (l : cyclic.Cyclic GateEntry) (t : Traffic) (sdu : ℕ) : Type 0 where
   pub repeats : nat_eq (t.period % l.cycle) 0 ≡ true
   pub are_let : CanPassTurns (cyclic.turn_by_time l) t.from t.to sdu

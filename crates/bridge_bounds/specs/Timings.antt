@@ -27,8 +27,8 @@ shortest_link_time out m t = transmission_time (min t.least (longest_frame m)) o
 abbrev pub longest_link_time : {A : Type 0} → PortPlan A → ℕ → Traffic → ℕ
 longest_link_time out m t = transmission_time (min t.longest (longest_frame m)) out.speed
 
--- Holds if `done` has the earliest and the latest end of transmission, in ns from the period's start. They belong to a shortest frame at phase `t.from` and a
--- longest frame at `t.to`.
+-- Holds if `done` has the earliest and the latest end of transmission, in ns from the period's start. They belong to a
+-- shortest frame at phase `t.from` and a longest frame at `t.to`.
 pub record ArePhases (o : GateSchedule) (c short long : ℕ) (t : Traffic) (done : Phases) : Type 0 where
   pub first : ℕ
   pub last : ℕ

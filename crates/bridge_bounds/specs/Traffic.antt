@@ -5,8 +5,8 @@ use Rattle.bridge_semantics.specs.Events.{Arrived, Cleared, Event}
 use Rattle.bridge_bounds.specs.Latency.{IsMultiple}
 use Rattle.bridge_bounds.specs.declared.traffic.Traffic.{Traffic}
 
--- Holds if traffic `t` is valid: ordered phases within a period of at most END_OF_TIME, and ordered lengths from 1 to 9,216 octets. Phases are in ns from the
--- period's start.
+-- Holds if traffic `t` is valid: ordered phases within a period of at most END_OF_TIME, and ordered lengths from 1 to
+-- 9,216 octets. Phases are in ns from the period's start.
 pub record IsTraffic (t : Traffic) : Type 0 where
   pub phases : t.from ≤ t.to
   pub within : t.to < t.period
@@ -23,7 +23,7 @@ ComeInPeriods t next (Arrived a ∷ es) =
     × (t.least ≤ a.len) × (a.len ≤ t.longest) × ComeInPeriods t p es
 ComeInPeriods t next (Cleared clear n ∷ es) = ComeInPeriods t next es
 
--- Holds if the frames among the events `es` follow traffic `t`: at most one in each period, between its phases, with an
--- allowed length.
+-- Holds if the frames among the events `es` follow traffic `t`: at most one in each period, between its phases, with a length from
+-- `t.least` to `t.longest`.
 abbrev pub KeepsTraffic : Traffic → List Event → Type 0
 KeepsTraffic t es = (next : ℕ) × ComeInPeriods t next es

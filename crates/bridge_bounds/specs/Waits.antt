@@ -24,7 +24,7 @@ has_period period Always = true
 has_period period (One l) = nat_eq (period % l.cycle) 0
 has_period period (Changing j) = false
 
--- Holds if the waits `w` are those of traffic `t`. They are a shortest frame's first fit from `t.from`, a longest frame's first fit from
+-- Holds if `w` has the waits of traffic `t` in class `c`: a shortest frame's first fit from `t.from`, a longest frame's first fit from
 -- `t.to`, and the longest wait in between.
 pub record AreWaits (o : GateSchedule) (c short long : ℕ) (t : Traffic) (w : Waits) : Type 0 where
   pub first : IsFirstFit (opens o c) short t.from w.first

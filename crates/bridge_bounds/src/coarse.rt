@@ -1,4 +1,4 @@
-//! Finds coarse delay bounds: they assume arrivals at any time, because the lists of stream gate and port have no common cycle.
+//! Tests whether delay bounds are coarse: they assume arrivals at any time, because the lists of stream gate and port have no common cycle.
 ghost use Rattle.std.specs.Prelude.{◌≡◌, ◌↔◌, ◌≤◌, true};
 ghost use Rattle.bridge_bounds.specs.Bounds.{IsCoarse, LackCommonCycle};
 ghost use Rattle.bridge_bounds.specs.declared.common_cycle.TheConstants.{MAX_INTERVALS};
@@ -26,10 +26,11 @@ fn lack_common_cycle<A: Allocator + Copy>(schedule: &Schedule<A>, lists: &Option
     }
 }
 
-/// Whether the delay bounds of a filter at a port are coarse: they count all arrival times, because gate and port have no common cycle.
-/// Returns false if filter or port is missing.
+/// Whether the delay bounds of filter `number` at `port` assume arrivals at any time. The reason is that the lists of its stream gate and
+/// of the port have no common cycle.
 ///
-/// `least_queue_bound` of `bridge_groups`, `put_tight_bound` of `net_latency`, and `put_gate_bounds` of `show_lint` call it.
+/// Returns false if the filter, its stream gate or the port is missing. `least_queue_bound` of `bridge_groups`, `put_tight_bound` of
+/// `net_latency`, and `put_gate_bounds` of `show_lint` call it.
 pub fn is_coarse<A: Allocator + Copy>(accepted: &Accepted<A>, number: u32, port: u8) -> bool
     ensures coarse { (result ≡ true) ↔ IsCoarse accepted.now number port }
     ensures limit { MAX_INTERVALS ≡ 1_024 }

@@ -7,10 +7,11 @@ use bridge_cycle::{CyclicList, LONGEST_CYCLE, Timeline};
 use bridge_gate::GateEntry;
 use std::alloc::Allocator;
 
-/// Largest number of intervals of both lists in a common cycle. It limits the work for one bound.
+/// Largest number of intervals that the lists of a stream gate and a port together may have in a common cycle. It limits the work for one
+/// bound.
 pub const MAX_INTERVALS: u64 = 1024;
 
-/// Returns the least number, at most `most`, of cycles of `cycle` ns that are whole cycles of `other` ns; `None` if there is none.
+/// Returns the least number of cycles of `cycle` ns that together are whole cycles of `other` ns; `None` if it is above `most`.
 /// `common_cycle` calls it.
 fn least_cycles(cycle: u64, other: u64, most: u64) -> Option<u64>
     requires cycle { cycle ≤ LONGEST_CYCLE }
@@ -29,7 +30,9 @@ fn least_cycles(cycle: u64, other: u64, most: u64) -> Option<u64>
     None
 }
 
-/// Returns the least common cycle of both lists in ns. Returns `None` if this cycle contains more than `MAX_INTERVALS` intervals.
+/// Returns the least common cycle in ns of a stream gate's list and a port's list. Returns `None` if both lists together have more than
+/// `MAX_INTERVALS` intervals in this cycle.
+///
 /// `lack_common_cycle` and `list_bound` call it.
 pub(crate) fn common_cycle<A: Allocator + Copy>(
     gate: &CyclicList<GateEntry, A>,

@@ -9,8 +9,10 @@ use bridge_cycle::{CyclicList, Timeline, Turn};
 use bridge_gate::GateEntry;
 use std::alloc::Allocator;
 
-/// Returns how many frames of at least two octets an entry passes in one interval. A closed entry passes 0. Returns `None` for an open
-/// entry without limit. `max_list_frames` calls it.
+/// Returns how many frames with an SDU of at least two octets a stream gate entry passes in one interval. A closed entry passes 0. Returns
+/// `None` for an open entry without octet limit.
+///
+/// `max_list_frames` calls it.
 fn max_entry_frames(entry: &GateEntry) -> Option<u32>
     ensures { result ≡ spec.max_entry_frames entry.now }
 {
@@ -20,8 +22,8 @@ fn max_entry_frames(entry: &GateEntry) -> Option<u32>
     Some(entry.octets? / 2)
 }
 
-/// Returns the largest number of frames that any entry passes in one interval; `None` if an open entry has no octet limit.
-/// `frames_below_room` calls it.
+/// Returns the largest number of frames that any entry of a stream gate's list passes in one interval; `None` if an open entry has no octet
+/// limit. `frames_below_room` calls it.
 fn max_list_frames(entries: &[(GateEntry, u64)]) -> Option<u32>
     ensures { result ≡ spec.max_list_frames entries.now }
 {
@@ -32,8 +34,10 @@ fn max_list_frames(entries: &[(GateEntry, u64)]) -> Option<u32>
     Some(most)
 }
 
-/// Returns the largest number of frames in one interval if it is less than the queue's capacity `room`, otherwise `None`. Only a lesser
-/// number lowers the bound. `tighten_bound` calls it.
+/// Returns the largest number of frames that an entry passes in one interval, if it is less than the queue capacity `room`. Otherwise, or
+/// if an open entry has no octet limit, returns `None`.
+///
+/// Only a number below the capacity lowers the bound. `tighten_bound` calls it.
 pub(crate) fn frames_below_room(entries: &[(GateEntry, u64)], room: u16) -> Option<u16>
     ensures { result ≡ spec.frames_below_room room (spec.max_list_frames entries.now) }
 {
@@ -61,8 +65,10 @@ fn is_shut<A: Allocator + Copy>(list: &CyclicList<GateEntry, A>, from: u64, unti
     true
 }
 
-/// Whether the stream gate passes no frame for `apart` ns after the interval `turn`. Returns true for a closed interval, because no frame
-/// passes in it. `are_apart` calls it.
+/// Whether the stream gate is closed for `apart` - 1 ns after the interval `turn`. So a frame in a later interval arrives at least `apart`
+/// ns after each frame of this interval.
+///
+/// Returns true for a closed interval, because no frame passes in it. `are_apart` calls it.
 fn is_shut_after_turn<A: Allocator + Copy>(
     list: &CyclicList<GateEntry, A>,
     turn: &Turn<GateEntry>,
@@ -80,10 +86,10 @@ fn is_shut_after_turn<A: Allocator + Copy>(
     is_shut(list, turn.end, (turn.end + apart).saturating_sub(1))
 }
 
-/// Whether the stream gate's open intervals are separated by at least `apart` ns. If so, the frames of one interval have left before the
-/// next opens.
+/// Whether times in two different open intervals of the stream gate are at least `apart` ns apart. If so, all frames that pass in `apart`
+/// ns are of one interval.
 ///
-/// Examines one cycle, and `apart` ns after each open interval. `lesser_bound` calls it.
+/// Examines one cycle, and the time after each open interval. `lesser_bound` calls it.
 pub(crate) fn are_apart<A: Allocator + Copy>(list: &CyclicList<GateEntry, A>, apart: u64) -> bool
     requires apart { apart ≤ 1_000_000_000_000_000_000 }
     requires lawful { IsLawful list.now }

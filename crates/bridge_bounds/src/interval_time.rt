@@ -1,4 +1,6 @@
 //! Longest time in which the frames of a full queue leave, if they begin to wait between two times.
+//!
+//! In this file, `occ` is a frame's transmission time in ns, and `room` the number of waiting frames.
 ghost use Rattle.std.specs.Prelude.{◌≡◌, ◌+◌, ◌-◌, ◌*◌, ◌%◌, ◌<◌, ◌≤◌, ◌⊎◌, ℕ, max, MatchOption, true};
 ghost use Rattle.bridge_cycle.specs.Cyclic.{IsLawful};
 ghost use Rattle.bridge_port.specs.GateSchedule.{list_can_fit, list_opens};
@@ -9,10 +11,10 @@ use crate::longest_time::{frames_duration, last_fit, list_first_fit, longest_tim
 use bridge_cycle::{CyclicList, LONGEST_CYCLE};
 use std::alloc::Allocator;
 
-/// Returns the latest time in ns, from `from` to `to`, from which frames miss the last fit of the window at `to` by 1 ns. The frames are
-/// sent one after another.
+/// Returns the latest time in ns, from `from` to `to`, with this property: frames sent back to back from then on miss the last fit of the
+/// window at `to` by 1 ns.
 ///
-/// Returns `from` without such a time. `interval_longest_time` calls it.
+/// Returns `from` if no frame fits at `to`, if the window never ends, or if this time is before `from`. `interval_longest_time` calls it.
 fn latest_start<A: Allocator + Copy>(
     list: &CyclicList<u8, A>,
     class: u8,
@@ -40,9 +42,10 @@ fn latest_start<A: Allocator + Copy>(
     }
 }
 
-/// Returns the longest time in ns in which `room` frames leave, if all begin to wait at one time from `from` to `to`.
+/// Returns the longest time in ns in which `room` frames of `occ` ns each leave. All begin to wait together, at a time from `from` to `to`.
 ///
-/// It is attained at `from`, 1 ns after a window's last fit, or at the latest start before `to`. `openings_longest_time` calls it.
+/// The frames need this time if they begin at `from`, 1 ns after a window's last fit, or at the latest start before `to`.
+/// `openings_longest_time` calls it.
 pub(crate) fn interval_longest_time<A: Allocator + Copy>(
     list: &CyclicList<u8, A>,
     class: u8,

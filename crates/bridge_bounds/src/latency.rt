@@ -36,10 +36,11 @@ pub fn starts_in_time<A: Allocator + Copy>()
         → StartsWithinWait (lists_open out.list c) (link_time out x.item) wait x.at x.fate }
 {}
 
-/// If a class's offers arrive once a period, between two phases, the frames start once a period. The first fits of the shortest and the
-/// longest frame limit the start.
+/// If a protected filter's offers in a class arrive once a period, between two phases, its frames start once a period. Each frame must be
+/// able to leave before the next offer.
 ///
-/// Delays of periodic talkers rest on it.
+/// The start's phases are the first fits of the shortest frame from the first phase, and of the longest frame from the last phase. Delays
+/// of periodic talkers rest on it.
 pub fn keeps_phase<A: Allocator + Copy>()
     ensures { (p : Plan A) (n : ℕ) (f : FilterPlan) (es : List Event) (v : View A) (q base c period : ℕ)
         (from upto least most first last next : ℕ) (out : PortPlan A)

@@ -24,10 +24,10 @@ ghost use Rattle.bridge_bounds.specs.GateFrames.{AreSeldom, AreWithinLengths, Ha
 
 use std::alloc::Allocator;
 
-/// Frames that wait from one time have one end of transmission (`once`), at most the longest time later (`bounds`). A time that frames need
-/// from some time is at most each longest time (`least`).
+/// If frames wait from a given time, their last transmission has only one end (`once`). This end is at most the longest time later
+/// (`bounds`).
 ///
-/// Searches for longest times rest on it.
+/// No longest time is less than a time that the frames need (`least`). Searches for longest times rest on it.
 pub fn longest_bounds()
     ensures once { (opens : ℕ → Bool) (occ k u v w : ℕ)
         → FramesEnd opens occ k u v
@@ -43,8 +43,8 @@ pub fn longest_bounds()
         → e ≤ d }
 {}
 
-/// If a class is always open, `k` frames leave one after another: they take `k` transmission times, and this time is attained. So the bound
-/// of an open class is a number of transmission times.
+/// If a class is always open, `k` frames that wait leave one after another, and need exactly `k` transmission times. So the bound of an
+/// open class is a number of transmission times.
 pub fn one_after_another()
     ensures longest { (opens : ℕ → Bool) (occ k : ℕ) → ((u : ℕ) → opens u ≡ true)
         → IsLongestTime opens occ k (k * occ) }
@@ -52,10 +52,9 @@ pub fn one_after_another()
         → IsTimeAttained opens occ k (k * occ) }
 {}
 
-/// In a queue alone on its link, each sent copy leaves at most `occ - 1 + d` ns after its offer. Here `d` is a full queue's longest time;
-/// transmissions take at most `occ`.
+/// In a queue alone on its link, each sent copy leaves at most `occ - 1 + d` ns after its offer.
 ///
-/// Delay bounds by capacity rest on it.
+/// Here `d` ns is a full queue's longest time; transmissions take at most `occ` ns. Delay bounds by capacity rest on it.
 pub fn solo_in_time<X: Drop>()
     ensures { (r : PortRules X) (c occ d s : ℕ) (x : Copy X) (older : List (Copy X))
         → IsSolo r (x ∷ older)
@@ -69,7 +68,8 @@ pub fn solo_in_time<X: Drop>()
 
 /// If a queue has its link to itself, each sent copy leaves at most `occ - 1 + d` ns after its offer. `lets` must be true at each offer.
 ///
-/// Here `d` is a full queue's longest time from such times. Delay bounds by capacity rest on it.
+/// Here `d` ns is a full queue's longest time, from `occ` - 1 ns after a time at which `lets` is true. Transmissions take at most `occ` ns.
+/// Delay bounds by capacity rest on it.
 pub fn solo_from_openings<X: Drop>()
     ensures { (r : PortRules X) (lets : ℕ → Bool) (c occ d s h : ℕ) (x : Copy X) (xs : List (Copy X))
         → IsSolo r xs
@@ -83,10 +83,10 @@ pub fn solo_from_openings<X: Drop>()
         → s + r.occ x.item ≤ x.at + (occ - 1) + d }
 {}
 
-/// If at most `n` sent copies are offered in any `d` ns, each leaves at most `occ - 1 + d` ns after its offer. Here `d` is the longest time
-/// of `n` frames.
+/// If at most `n` sent copies are offered in any `d` ns, each leaves at most `occ - 1 + d` ns after its offer. Here `d` ns is the longest
+/// time of `n` frames.
 ///
-/// Bounds by octet limits rest on it.
+/// Transmissions take at most `occ` ns. Bounds by octet limits rest on it.
 pub fn seldom_in_time<X: Drop>()
     ensures { (r : PortRules X) (c occ n d s : ℕ) (x : Copy X) (older : List (Copy X))
         → IsSolo r (x ∷ older)
@@ -99,8 +99,8 @@ pub fn seldom_in_time<X: Drop>()
         → s + r.occ x.item ≤ x.at + (occ - 1) + d }
 {}
 
-/// If open intervals are `w` ns apart and their limit passes `k` frames, at most `k` frames pass in any `w` ns. Each frame has at least two
-/// octets.
+/// If a stream gate's open intervals are `w` ns apart and pass `k` frames each, at most `k` frames pass in any `w` ns. Each frame must have
+/// an SDU of at least two octets.
 ///
 /// Bounds by octet limits rest on it.
 pub fn lets_seldom()
@@ -110,10 +110,10 @@ pub fn lets_seldom()
         → AreSeldom w k (pass_times (gate_steps r es)) }
 {}
 
-/// A queue's bound exceeds a possible delay by at most `occ - 1` ns. If `room` frames can need `d` ns, a burst that fills the empty queue
-/// has a copy delayed by `d` ns.
+/// Let the frames of a full queue, of `occ` ns each, need `d` ns at worst. Then a burst that fills the empty queue has a copy delayed by
+/// `d` ns.
 ///
-/// So no much smaller bound is true.
+/// So the bound `occ - 1 + d` exceeds a possible delay by at most `occ` - 1 ns.
 pub fn nearly_attained<X: Drop>()
     ensures { (r : PortRules X) (c d : ℕ) (item : X)
         → r.ever c (r.occ item) ≡ true
@@ -169,10 +169,12 @@ pub fn in_time<A: Allocator + Copy>()
         → k ≤ b }
 {}
 
-/// If a protected filter's stream gate passes at most `k` frames per interval, and its intervals are far enough apart, `k` frames bound the
-/// delay. Frames must have at least their captured octets.
+/// If a protected filter's stream gate passes at most `k` frames per interval, each sent copy leaves within `occ - 1 + d` ns after its
+/// offer.
 ///
-/// Bounds by octet limits rest on it.
+/// Here `occ` ns is the longest transmission time, and `d` ns the longest time of `k` frames. Open intervals must be at least `d` ns apart.
+///
+/// Each frame's length must be at least its number of captured octets. Bounds by octet limits rest on it.
 pub fn few_in_time<A: Allocator + Copy>()
     ensures { (p : Plan A) (n m k d : ℕ) (f : FilterPlan) (es : List Event) (moments : ℕ → ℕ)
         (lists : ℕ → List (Copy CarriedFrame)) (q s : ℕ) (out : PortPlan A) (x : Copy CarriedFrame)
@@ -193,8 +195,8 @@ pub fn few_in_time<A: Allocator + Copy>()
         → s + transmission_time x.item.len out.speed ≤ x.at + (transmission_time (longest_frame m) out.speed - 1) + d }
 {}
 
-/// Each sent copy of a protected filter has left within its queue's tight bound. Frames must have at least their captured octets. This is
-/// the theorem about tight bounds (docs/DELAYS.md).
+/// Each sent copy of a protected filter has left within its queue's tight bound. Each frame's length must be at least its number of
+/// captured octets. This is the theorem about tight bounds (docs/DELAYS.md).
 pub fn in_time_by_octets<A: Allocator + Copy>()
     ensures { (p : Plan A) (n b : ℕ) (es : List Event) (moments : ℕ → ℕ) (lists : ℕ
         → List (Copy CarriedFrame)) (q s : ℕ)

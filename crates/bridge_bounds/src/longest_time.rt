@@ -1,4 +1,6 @@
-//! Longest time in which a full queue leaves, by the transmission gates of its port.
+//! Longest time in which the frames of a full queue leave, by the gate control lists of their port.
+//!
+//! In this file, `occ` is a frame's transmission time in ns, and `room` the number of waiting frames.
 ghost use Rattle.std.specs.Prelude.{◌≡◌, ◌↔◌, ◌+◌, ◌-◌, ◌*◌, ◌<◌, ◌≤◌, ℕ, MatchOption, true, Some};
 ghost use Rattle.bridge_cycle.specs.Cyclic.{IsLawful};
 ghost use Rattle.bridge_cycle.specs.Fits.{Fits, IsFirstFit};
@@ -10,7 +12,9 @@ use bridge_cycle::{CyclicList, Egress, LONGEST_CYCLE, Timeline, first_fit, is_op
 use std::alloc::Allocator;
 
 /// Returns the first time in ns, from `from` on, at which a frame with transmission time `occ` ns fits. Wraps `first_fit`, and bounds the
-/// wait by `LONGEST_CYCLE`. `latest_start`, `frames_end` and others call it.
+/// wait by `LONGEST_CYCLE`.
+///
+/// `latest_start` and the searches of this file call it.
 pub(crate) fn list_first_fit<A: Allocator + Copy>(
     list: &CyclicList<u8, A>,
     class: u8,
@@ -122,10 +126,10 @@ fn frames_end<A: Allocator + Copy>(
     end
 }
 
-/// Returns the number of frames in a round, at most `room`, and the round's end in ns. After a round, the next frame starts whole cycles
-/// after the first. `end_after_rounds` skips such rounds.
+/// Returns a number of frames, at most `room`, and the time in ns at which they have left. If fewer than `room`, the next frame starts
+/// whole cycles after the first.
 ///
-/// `frames_duration` calls it.
+/// So the frames repeat, and `end_after_rounds` skips the repetitions. `frames_duration` calls it.
 fn repeating_round<A: Allocator + Copy>(
     list: &CyclicList<u8, A>,
     class: u8,
@@ -160,10 +164,10 @@ fn repeating_round<A: Allocator + Copy>(
     (room, end)
 }
 
-/// Returns the time in ns at which `room` frames have left, if the first `done` of them have left at `end`. If the next frame starts whole
-/// cycles after the first, skips whole rounds.
+/// Returns the time in ns at which `room` frames that wait from `from` on have left. The first `done` of them have left at `end`.
 ///
-/// `frames_duration` calls it.
+/// If the next frame starts whole cycles after the first, each further `done` frames repeat the first, and the function skips these
+/// repetitions. `frames_duration` calls it.
 fn end_after_rounds<A: Allocator + Copy>(
     list: &CyclicList<u8, A>,
     class: u8,
@@ -241,8 +245,8 @@ fn is_edge<A: Allocator + Copy>(list: &CyclicList<u8, A>, class: u8, occ: u64, m
         && list_first_fit(list, class, occ, moment + 1) != moment + 1
 }
 
-/// Returns the longest time in ns until `room` frames of `occ` ns have left. All begin to wait at `from`, or 1 ns after a window's last
-/// fit, at `to` or before.
+/// Returns the longest time in ns until `room` frames of `occ` ns have left. All begin to wait together: at `from`, or 1 ns after a
+/// window's last fit, but not after `to`.
 ///
 /// `list_longest_time` and `interval_longest_time` call it: frames that just miss a window wait longest.
 pub(crate) fn longest_time_after_edges<A: Allocator + Copy>(
@@ -277,10 +281,10 @@ pub(crate) fn longest_time_after_edges<A: Allocator + Copy>(
     longest
 }
 
-/// Returns the longest time in ns in which `room` waiting frames leave under one list. It is attained 1 ns after a window's last fit, or
-/// always if the class is always open.
+/// Returns the longest time in ns in which `room` waiting frames leave under one list. The frames need it if they wait from 1 ns after a
+/// window's last fit.
 ///
-/// `egress_longest_time` calls it.
+/// If the class is always open, the frames need this time from any time on. `egress_longest_time` calls it.
 fn list_longest_time<A: Allocator + Copy>(
     list: &CyclicList<u8, A>,
     class: u8,

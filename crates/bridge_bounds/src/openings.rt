@@ -1,4 +1,6 @@
-//! Delay bounds of queues for frames that arrive while a stream gate can put them there.
+//! Delay bounds of queues, for frames that arrive while their stream gate can put them into the queue.
+//!
+//! In this file, `occ` is the longest frame's transmission time in ns, and `room` the queue's capacity.
 ghost use Rattle.std.specs.Prelude.{◌≡◌, ◌+◌, ◌-◌, ◌*◌, ◌≤◌, ◌<◌, ℕ, MatchOption, Some, true, false};
 ghost use Rattle.bridge_cycle.specs.Cyclic.{IsLawful};
 ghost use Rattle.bridge_frame.specs.Link.{transmission_time};
@@ -19,7 +21,8 @@ use bridge_gate::{GateEntry, Schedule};
 use bridge_limits::LONGEST_FRAME;
 use std::alloc::Allocator;
 
-/// Whether `entry` is open and can give priority `k` to a frame of a filter with optional priority `priority`. `fills_class` calls it.
+/// Whether `entry` is open and can give priority `k` to a frame of a filter with the optional priority `priority`. Without any priority,
+/// `k` can be any. `fills_class` calls it.
 fn gives_priority(entry: &GateEntry, priority: Option<u8>, k: u8) -> bool
     ensures { result ≡ reached.gives_priority entry.now priority k }
 {
@@ -43,10 +46,10 @@ fn fills_class<A: Allocator + Copy>(
     found
 }
 
-/// Returns the longest time in ns in which the frames of a full queue leave. They wait from `occ` - 1 ns after a time at which the stream
-/// gate can put a frame into the class.
+/// Returns the longest time in ns in which the frames of a full queue leave. They wait from `occ` - 1 ns after a time at which the gate can
+/// fill the class.
 ///
-/// Returns `None` if there is no such time. `list_bound` calls it.
+/// Returns `None` if the gate never puts a frame into the class. Examines `span` ns, a common cycle of both lists. `list_bound` calls it.
 fn openings_longest_time<A: Allocator + Copy>(
     gate: &CyclicList<GateEntry, A>,
     list: &CyclicList<u8, A>,
@@ -94,8 +97,9 @@ fn openings_longest_time<A: Allocator + Copy>(
     Some(longest)
 }
 
-/// Returns the delay bound in ns of a queue under one list of the stream gate and one list of the port. Without a common cycle, all arrival
-/// times count. `gate_list_bound` calls it.
+/// Returns the delay bound in ns of a queue under one list of the stream gate and one list of the port. `gate_list_bound` calls it.
+///
+/// If both lists have no common cycle, or the gate never puts a frame into the class, the bound assumes arrivals at any time.
 fn list_bound<A: Allocator + Copy>(
     gate: &CyclicList<GateEntry, A>,
     list: &CyclicList<u8, A>,
@@ -122,8 +126,9 @@ fn list_bound<A: Allocator + Copy>(
     }
 }
 
-/// Returns the delay bound in ns of a queue under one list of the stream gate. If the port has no list, or its list changes, all arrival
-/// times count. `gate_bound` calls it.
+/// Returns the delay bound in ns of a queue under one list of the stream gate. `gate_bound` calls it.
+///
+/// If the port has no list, or its list changes, the bound assumes arrivals at any time.
 fn gate_list_bound<A: Allocator + Copy>(
     gate: &CyclicList<GateEntry, A>,
     port: &PortPlan<A>,
@@ -144,8 +149,10 @@ fn gate_list_bound<A: Allocator + Copy>(
     }
 }
 
-/// Returns the delay bound in ns of a queue by its capacity, for frames that the stream gate's schedule passes. `priority` is the filter's
-/// priority. `reached_queue_bound` and `tight_reached_queue_bound` call it.
+/// Returns the delay bound in ns of a queue by its capacity, for frames that the stream gate's schedule passes. `priority` and `sdu` are
+/// the filter's priority and maximum SDU.
+///
+/// `reached_queue_bound` and `tight_reached_queue_bound` call it.
 pub(crate) fn gate_bound<A: Allocator + Copy>(
     schedule: &Schedule<A>,
     port: &PortPlan<A>,

@@ -1,4 +1,4 @@
-//! The test whether a filter passes each frame of a periodic talker. If yes, the lines of `bounds --traffic` say `passes`.
+//! The test whether a filter passes each frame of a periodic talker. If yes, `bounds --traffic` prints `passes`.
 ghost use Rattle.std.specs.Prelude.{◌≡◌, ◌↔◌, ◌≤◌, true};
 ghost use Rattle.bridge_limits.specs.declared.TheConstants.{END_OF_TIME};
 ghost use Rattle.bridge_cycle.specs.Cyclic.{IsLawful, turn_by_time};
@@ -16,8 +16,8 @@ use bridge_gate::{GateEntry, Schedule};
 use bridge_ident::{StreamEntry, TagKind};
 use std::alloc::Allocator;
 
-/// Whether an entry of this tag kind accepts only VLAN-tagged frames. A tag makes the SDU of a frame 4 octets shorter. `are_all_tagged`
-/// calls it.
+/// Whether a stream entry of this tag kind accepts only VLAN-tagged frames. A tag makes the SDU of a frame 4 octets shorter.
+/// `are_all_tagged` calls it.
 fn takes_only_tagged(tag: TagKind) -> bool
     ensures { result ≡ spec.takes_only_tagged tag }
 {
@@ -28,8 +28,8 @@ fn takes_only_tagged(tag: TagKind) -> bool
     }
 }
 
-/// Whether all entries with this stream handle accept only VLAN-tagged frames. Returns true if no entry has the handle. `longest_sdu` calls
-/// it.
+/// Whether all stream entries with handle `handle` accept only VLAN-tagged frames. Returns true if no entry has the handle. `longest_sdu`
+/// calls it.
 fn are_all_tagged(handle: u32, streams: &[StreamEntry]) -> bool
     ensures { result ≡ spec.are_all_tagged handle streams.now }
 {
@@ -38,8 +38,10 @@ fn are_all_tagged(handle: u32, streams: &[StreamEntry]) -> bool
         .all(|e| e.handle != handle || takes_only_tagged(e.tag))
 }
 
-/// Returns the largest possible SDU in octets of a frame with handle `handle` and captured length. Without a handle, frames may be
-/// untagged. `passes` and functions of `net_latency` call it.
+/// Returns the largest possible SDU in octets of a frame with stream handle `handle` and a length of `len` octets. Without a handle, the
+/// frame may be untagged.
+///
+/// `passes` and functions of `net_latency` call it.
 pub fn longest_sdu<A: Allocator + Copy>(plan: &Plan<A>, handle: Option<u32>, len: u32) -> u32
     ensures { result ≡ spec.longest_sdu plan.now handle len }
 {
@@ -59,7 +61,7 @@ fn is_above(most: Option<u32>, octets: u32) -> bool
     }
 }
 
-/// Whether an interval of this stream gate entry passes a first frame of `sdu` octets: the gate is open and the octet limit suffices.
+/// Whether the first frame of an interval passes, if this frame has `sdu` SDU octets: `entry` is open, and its octet limit suffices.
 /// `can_pass_turns` calls it.
 fn can_pass_entry(entry: &GateEntry, sdu: u32) -> bool
     ensures { result ≡ spec.can_pass_entry entry.now sdu }
@@ -73,8 +75,8 @@ fn can_pass_entry(entry: &GateEntry, sdu: u32) -> bool
     }
 }
 
-/// Whether an interval with an octet limit ends by time `until`, when the next frame may arrive. Returns true without a limit.
-/// `can_pass_list` calls it.
+/// Whether an interval with an octet limit and the end `end` ends by time `until`, when the next frame may arrive. Returns true without a
+/// limit. `can_pass_list` calls it.
 fn is_limit_reset_in_time(octets: Option<u32>, end: u64, until: u64) -> bool
     ensures { result ≡ spec.is_limit_reset_in_time octets end until }
 {
@@ -109,8 +111,10 @@ fn can_pass_turns<A: Allocator + Copy>(
     true
 }
 
-/// Whether a stream gate's list passes each frame of the traffic. The period must be a multiple of the cycle time. No frame may share an
-/// interval's octets with another. `can_pass_schedule` calls it.
+/// Whether a stream gate's list passes each frame of the traffic. The period must be a multiple of the cycle time. An interval with an
+/// octet limit must end before the next frame can arrive.
+///
+/// `can_pass_schedule` calls it.
 fn can_pass_list<A: Allocator + Copy>(
     list: &CyclicList<GateEntry, A>,
     traffic: &Traffic,
@@ -153,8 +157,10 @@ fn can_pass_schedule<A: Allocator + Copy>(
     }
 }
 
-/// Whether each own frame of `filter` passes if these frames keep `traffic`. Their size must be allowed, the filter must have no meter, and
-/// the stream gate must pass one frame in each interval.
+/// Whether `filter` passes each own frame if these frames keep `traffic`. Their size must be allowed, the filter must have no meter, and
+/// its stream gate must pass each frame.
+///
+/// Functions of `net_check` and `net_latency` call it.
 pub fn passes<A: Allocator + Copy>(plan: &Plan<A>, filter: &FilterPlan, traffic: &Traffic) -> bool
     requires traffic { IsTraffic traffic.now }
     ensures { (result ≡ true) ↔ Passes plan.now filter.now traffic.now }

@@ -24,8 +24,8 @@ ghost use Rattle.bridge_bounds.specs.Traffic.{IsTraffic, KeepsTraffic};
 
 use std::alloc::Allocator;
 
-/// If a protected filter's own frames keep their traffic, each copy in a queue with phases ends between these phases. Each sent copy has a
-/// delay between best and worst.
+/// If a protected filter's own frames keep a traffic, and a queue has phases, each copy's transmission in this queue ends between the
+/// phases. Each sent copy has a delay between best and worst.
 ///
 /// Other traffic doesn't matter. docs/DELAYS.md cites it.
 pub fn frames_keep_periods<A: Allocator + Copy>()

@@ -31,8 +31,10 @@ pub fn find_filter(filters: &[(u32, FilterPlan)], number: u32) -> Option<FilterP
     None
 }
 
-/// Returns the delay bound in ns of a queue by its capacity, for frames with a service data unit of at most `sdu` octets. `list_bound`,
-/// `gate_list_bound` and functions of `bridge_groups` call it.
+/// Returns the delay bound in ns of a queue by its capacity, for frames with a service data unit of at most `sdu` octets. Assumes arrivals
+/// at any time.
+///
+/// `list_bound`, `gate_list_bound`, `gate_bound` and functions of `bridge_groups` call it.
 pub fn class_bound<A: Allocator + Copy>(port: &PortPlan<A>, class: u8, sdu: u32) -> u64
     requires class { class < 8 }
     requires sdu { sdu ≤ 65535 }

@@ -98,10 +98,10 @@ fn tight_reached_queue_bound<A: Allocator + Copy>(
     Some(tighten_bound(&gate.schedule, out, class, sdu, bound))
 }
 
-/// Returns the bound of `queue_bound`, or a lesser bound if octet limits of the stream gate allow it. Frames must have at least their
-/// captured octets. Allocates no memory.
+/// Returns the bound of `queue_bound`, or a lesser bound if octet limits of the stream gate allow it. Each frame's length must be at least
+/// its number of captured octets.
 ///
-/// `least_queue_bound` of `bridge_groups` and `put_tight_bound` of `net_latency` call it.
+/// Allocates no memory. `least_queue_bound` of `bridge_groups` and `put_tight_bound` of `net_latency` call it.
 pub fn tight_queue_bound<A: Allocator + Copy>(
     accepted: &Accepted<A>,
     number: u32,

@@ -1,4 +1,4 @@
-//! Phases and delays of a traffic's frames in a queue.
+//! Phases and delays of a periodic talker's frames in a queue.
 ghost use Rattle.std.specs.Prelude.{◌≡◌, ◌-◌, ◌<◌, ◌≤◌, MatchOption, None, Some, true};
 ghost use Rattle.bridge_cycle.specs.declared.cyclic_list.TheConstants.{LONGEST_CYCLE};
 ghost use Rattle.bridge_frame.specs.Link.{transmission_time};

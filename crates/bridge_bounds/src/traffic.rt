@@ -10,8 +10,8 @@ pub struct Traffic {
     pub from: u64,
     /// Last phase at which a frame may arrive, in ns from the start of its period.
     pub to: u64,
-    /// Captured length of the shortest frame in octets.
+    /// Length of the shortest frame in octets, without check sequence.
     pub least: u32,
-    /// Captured length of the longest frame in octets.
+    /// Length of the longest frame in octets, without check sequence.
     pub longest: u32,
 }

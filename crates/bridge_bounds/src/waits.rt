@@ -1,4 +1,5 @@
-//! Waiting times of frames that arrive between two phases, by the transmission gates of their port.
+//! Waiting times of frames that arrive between two phases, by the transmission gates of their port. In this file, `occ` is a frame's
+//! transmission time in ns.
 ghost use Rattle.std.specs.Prelude.{◌≡◌, ◌+◌, ◌<◌, ◌≤◌, MatchOption, true, false};
 ghost use Rattle.bridge_limits.specs.declared.TheConstants.{END_OF_TIME};
 ghost use Rattle.bridge_cycle.specs.Cyclic.{IsLawful};

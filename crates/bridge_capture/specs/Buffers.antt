@@ -1,4 +1,4 @@
--- Octets between a caller and the readers and writers of the standard library.
+-- Octets in the buffers between captures and the readers and writers of the standard library.
 use Rattle.std.specs.Prelude.{ℕ, List, [], Option, take, slice_range, if◌then◌else◌}
 use Rattle.std.specs.Io.KnownBytes.{prepend_known, append_known}
 use Rattle.bridge_capture.specs.declared.read_buffer.ReadBuffer.{ReadBuffer}
@@ -22,6 +22,6 @@ read_ahead_remaining remaining s = prepend_known (unread_octets s.window) (remai
 abbrev pub held_octets : {A : Type 0} → WriteBuffer A → List ℕ
 held_octets h = take h.count h.octets.items
 
--- Octets of the writer, if known, then octets held back.
+-- Octets of the writer, then octets held back; `None` if the writer's octets are unknown.
 abbrev pub write_behind_contents : {W A : Type 0} → (W → Option (List ℕ)) → WriteBehind W A → Option (List ℕ)
 write_behind_contents contents s = append_known (contents s.sink.writer) (held_octets s.held)

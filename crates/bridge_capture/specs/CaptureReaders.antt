@@ -12,7 +12,9 @@ use Rattle.bridge_capture.specs.StandsFor.{StandsFor, IsRefusal, HasReadFrames, 
 use Rattle.bridge_capture.specs.TakenOctets.{TakesFewer}
 use Rattle.bridge_capture.specs.declared.capture_reader.CaptureReader.{CaptureReader}
 
--- Holds if guarantees for the frame that a reader of a capture has read ahead, whatever the source contains.
+-- Holds if more records of the reader's capture can follow, and its last record has the time of `p`. This time is below `END_OF_TIME`.
+--
+-- The captured octets of `p` are at most `MAX_CAPTURED_OCTETS` and at most its length. All this holds whatever the source contains.
 pub record IsFrameAhead {A : Type 0} (lane : CaptureReader A) (p : Packet A) : Type 0 where
   pub reading : IsReading lane.capture
   pub latest : lane.capture.latest ≡ p.time
@@ -24,7 +26,7 @@ pub record IsFrameAhead {A : Type 0} (lane : CaptureReader A) (p : Packet A) : T
 abbrev pub IsReader : {A : Type 0} → CaptureReader A → Type 0
 IsReader {A} lane = (p : Packet A) → lane.ahead ≡ Some p → IsFrameAhead lane p
 
--- Number of frames that a reader can still return: the frame ahead and later frames, or 0.
+-- Number of frames that a reader can still return: the frame ahead and later frames; 0 without a frame ahead.
 abbrev pub frames_left : {A : Type 0} → CaptureReader A → ℕ
 frames_left lane = if is_some lane.ahead then records_left lane.capture + 1 else 0
 

@@ -136,8 +136,7 @@ pub data CaptureEnding : Type 0 where
   AtEnd : CaptureEnding
   AtFault : CaptureFault → CaptureEnding
 
--- Holds if reading stops here with `ending`: AtEnd if no octets remain, or AtFault with the fault found; false if a
--- frame was read.
+-- Holds if `ending` fits the item: AtEnd if no octets remain, or AtFault with the item's fault. For a frame, it doesn't hold.
 abbrev pub IsEnding : FrontItem → CaptureEnding → Type 0
 IsEnding Nothing ending = ending ≡ AtEnd
 IsEnding (Fault fault) ending = ending ≡ AtFault fault

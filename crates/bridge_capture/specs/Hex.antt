@@ -1,4 +1,4 @@
--- Octets that a hexadecimal text on standard input stands for.
+-- Octets that a hexadecimal text on standard input encodes.
 use Rattle.std.specs.Prelude.{ℕ, ◌+◌, ◌-◌, ◌*◌, ◌==◌, ◌&&◌, ◌||◌, nat_lt, Bool, if◌then◌else◌, List, [], ◌∷◌, length, Option, Some, None, Result, Ok, Err}
 use Rattle.std.specs.Char.{digit_value, is_digit}
 use Rattle.bridge_capture.specs.declared.hex_fault.HexFault.{HexFault}
@@ -17,7 +17,7 @@ abbrev pub with_octet : ℕ → Result (List ℕ) HexFault → Result (List ℕ)
 with_octet octet (Ok octets) = Ok (octet ∷ octets)
 with_octet octet (Err fault) = Err fault
 
--- Prepends an octet to the result for the rest; a fault if there is no octet, or if `room` is 0.
+-- Prepends an octet to the result for the rest. `NotHex` if there is no octet (`None`); `TooLong` if there is one, and `room` is 0.
 abbrev pub octet_and_rest : Option ℕ → ℕ → Result (List ℕ) HexFault → Result (List ℕ) HexFault
 octet_and_rest None room others = Err NotHex
 octet_and_rest (Some octet) room others = if room == 0 then Err TooLong else with_octet octet others

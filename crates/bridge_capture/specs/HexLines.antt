@@ -1,4 +1,4 @@
--- Hexadecimal text of captured frames, which the program prints without arguments.
+-- Hexadecimal text of captured frames, which the program prints if it has no arguments.
 use Rattle.std.specs.Prelude.{ℕ, ◌/◌, ◌%◌, List, [], ◌∷◌, ◌++◌}
 use Rattle.std.specs.Char.{digit_char}
 use Rattle.std.specs.List.{flat_map}

@@ -1,4 +1,4 @@
--- Source or sink of a capture in memory, as contracts see it.
+-- Source or sink of a capture in memory, as contracts describe it.
 use Rattle.std.specs.Prelude.{ℕ, List, Option, Bool, not, is_some, ◌&&◌, ◌||◌}
 
 -- Source or sink in memory. `octets` remain to be read, or were written. It fails after `allowance` octets (`None`:

@@ -21,26 +21,26 @@ packet_result octets (Ok (Some stamp)) = Ok (Some (record { time = stamp.time; l
 packet_result octets (Ok None) = Ok None
 packet_result octets (Err fault) = Err fault
 
--- Holds if the call returned no packet, or a packet with the property.
+-- Holds if the call returned no packet, or a packet with the property `P`.
 abbrev pub IfPacket : {A : Type 0} → Result (Option (Packet A)) CaptureFault → (Packet A → Type 0) → Type 0
 IfPacket (Ok (Some packet)) P = P packet
 IfPacket (Ok None) P = Unit {0}
 IfPacket (Err fault) P = Unit {0}
 
--- Holds if the fault is the one at the front of the octets, or means that the source failed or memory ran out.
+-- Holds if `front` is this fault, or if the fault means that the source failed or memory ran out.
 abbrev pub IsFaultOfFront : CaptureFault → FrontItem → Type 0
 IsFaultOfFront faults.Read front = Unit {0}
 IsFaultOfFront faults.NoMemory front = Unit {0}
 IsFaultOfFront fault front = front ≡ Fault fault
 
--- Holds if the result agrees with the front of the octets: no packet at the end, a record's packet, or a fault.
+-- Holds if the result agrees with `front`, the next item of the octets: no packet at the end, a record's packet, or a fault.
 abbrev pub TakesFront : {A : Type 0} → FrontItem → Option (List ℕ) → Result (Option (Packet A)) CaptureFault → Type 0
 TakesFront front rest (Ok None) = front ≡ Nothing
 TakesFront front rest (Ok (Some p)) = (more : List ℕ) × (front ≡ Record (packet_frame p) more) × (rest ≡ Some more)
 TakesFront front rest (Err fault) = IsFaultOfFront fault front
 
--- Holds if a record's octets are cut, or the source failed before they were complete, or memory ran out before the
--- first octet.
+-- Holds if `fault` fits the reading of `count` octets of record `number`: they are cut, the source failed before they were complete, or
+-- memory ran out before the first octet.
 abbrev pub CutsOctets : ℕ → ℕ → Option (List ℕ) → Option (List ℕ) → CaptureFault → Type 0
 CutsOctets number count old new faults.Read = TakesFewer count old new
 CutsOctets number count old new faults.NoMemory = new ≡ old
@@ -66,7 +66,8 @@ IsHeaderFault faults.BadVersion = Unit {0}
 IsHeaderFault faults.BadLinkType = Unit {0}
 IsHeaderFault fault = ⊥
 
--- Holds if guarantees for a packet that was read as record `number`, after a record at time `earliest`, for any source.
+-- Holds if `packet` may follow as record `number` after a record at time `earliest`: number, time and captured length are within the limits
+-- of a capture.
 pub record IsInBounds {A : Type 0} (number earliest : ℕ) (packet : Packet A) : Type 0 where
   pub few : number ≤ MAX_RECORDS
   pub early : packet.time < END_OF_TIME
@@ -74,8 +75,9 @@ pub record IsInBounds {A : Type 0} (number earliest : ℕ) (packet : Packet A) :
   pub small : length packet.octets.items ≤ MAX_CAPTURED_OCTETS
   pub within : length packet.octets.items ≤ packet.len
 
--- Holds if a read fault occurs only if the source has failed, and always if it had failed before. A write fault never occurs. A source
--- that never fails gives no read fault, and still never fails.
+-- Holds if a read fault occurs only if the source has failed, and always if it had failed before.
+--
+-- A write fault never occurs. A source that never fails gives no read fault, and still never fails.
 pub record AgreesWithSource {S X : Type 0} (has_failed never_fails : S → Bool) (old new : S) (result : Result X CaptureFault) : Type 0 where
   pub failed : result ≡ Err faults.Read → has_failed new ≡ true
   pub sure : never_fails old ≡ true → result ≢ Err faults.Read

@@ -38,11 +38,11 @@ HasEnded capture = capture.progress ≡ Ended
 abbrev pub HasRefused : CaptureState → CaptureFault → Type 0
 HasRefused capture fault = capture.progress ≡ Refused fault
 
--- Holds if the capture `text` begins with the frames that were read so far.
+-- Holds if the file contents `text` begin with a header without fault and the frames `given`.
 abbrev pub HasReadFrames : List ℕ → List CapturedFrame → Type 0
 HasReadFrames text given = (form : CaptureFormat) × (next : RecordPosition) × (rest : List ℕ) × (header_format text ≡ Ok form) × ReadsPrefix form first_position (drop 24 text) given next rest
 
--- Holds if the file contents begin with these frames, and the next record was begun. Then the source failed or memory ran out.
+-- Holds if the file contents begin with these frames, and reading the next record stopped because the source failed or memory ran out.
 pub record StopsInRecord (fault : CaptureFault) (remaining : Option (List ℕ)) (text : List ℕ) (given : List CapturedFrame) : Type 0 where
   pub form : CaptureFormat
   pub next : RecordPosition
@@ -64,11 +64,11 @@ StandsForProgress Reading capture remaining text given = (rest : List ℕ) × (r
 StandsForProgress Ended capture remaining text given = IsCapture text given AtEnd
 StandsForProgress (Refused fault) capture remaining text given = IsRefusal fault remaining text given
 
--- Holds if the capture returned these frames of the file contents, and its source has the rest.
+-- Holds if the capture has returned these frames of the file contents. If more records can follow, its source has the remaining octets.
 abbrev pub StandsFor : CaptureState → Option (List ℕ) → List ℕ → List CapturedFrame → Type 0
 StandsFor capture remaining text given = StandsForProgress capture.progress capture remaining text given
 
--- Holds if the header gives a capture, or its fault; or the source failed within the header.
+-- Holds if the call read a header without fault, returned the header's fault, or returned that the source failed within the header.
 abbrev pub BeginsCapture : List ℕ → Option (List ℕ) → Result CaptureState CaptureFault → Type 0
 BeginsCapture text remaining (Ok capture) = StandsFor capture remaining text []
 BeginsCapture text remaining (Err faults.Read) = TakesFewer 24 (Some text) remaining

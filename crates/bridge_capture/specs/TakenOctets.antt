@@ -29,7 +29,8 @@ HasSoundHeader form place octets = record_header_fault place (record_time form o
 abbrev pub IsCutRecord : CaptureFormat → RecordPosition → List ℕ → Type 0
 IsCutRecord form place octets = (length octets < 16) ⊎ (HasSoundHeader form place octets × (length octets < 16 + captured_length form octets))
 
--- Holds if the octets that a failing source gave: an incomplete record, or nothing after the last allowed record.
+-- Holds if a failing source can have given these octets of a record: they are incomplete, and none after the last
+-- allowed record.
 abbrev pub IsReadPart : CaptureFormat → RecordPosition → List ℕ → Type 0
 IsReadPart form place octets = (MAX_RECORDS < place.number → octets ≡ []) × IsCutRecord form place octets
 

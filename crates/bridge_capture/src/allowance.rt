@@ -2,8 +2,10 @@
 ghost use Rattle.std.specs.Prelude.{◌≡◌, ◌≢◌, ◌≤◌, ◌<◌, ◌-◌, ◌⊎◌, Some, true, false, option_map};
 ghost use Rattle.std.specs.Option.{ForSome};
 
-/// Whether a source or sink fails to move `count` octets: it has failed before, or its allowance is used up. `None` is an unlimited
-/// allowance. `read` and `write` call it.
+/// Whether a source or sink in memory fails to move `count` octets: it has failed before, or its allowance is 0 and `count` isn't. `None`
+/// is an unlimited allowance.
+///
+/// `SliceSource::read` and `VecSink::write` call it.
 pub(crate) fn is_failing(is_broken: bool, allowance: Option<usize>, count: usize) -> bool
     ensures over { result ≡ true → (is_broken ≡ true) ⊎ (allowance ≡ Some 0) }
     ensures sound { result ≡ false → is_broken ≡ false }
@@ -15,8 +17,8 @@ pub(crate) fn is_failing(is_broken: bool, allowance: Option<usize>, count: usize
     }
 }
 
-/// Returns the number of octets, of `count`, that a source or sink moves within its allowance; `count` for `None`. `read` and `write` call
-/// it.
+/// Returns the number of octets, of `count`, that a source or sink moves within its allowance; `count` if the allowance is `None`.
+/// `SliceSource::read` and `VecSink::write` call it.
 pub(crate) fn allowed_octets(allowance: Option<usize>, count: usize) -> usize
     ensures few { result ≤ count }
     ensures within { ForSome allowance (λ left. result ≤ left) }
@@ -28,7 +30,8 @@ pub(crate) fn allowed_octets(allowance: Option<usize>, count: usize) -> usize
     }
 }
 
-/// Returns the allowance that remains after `count` octets were moved; `None` stays unlimited. `read` and `write` call it.
+/// Returns the allowance that remains after `count` octets were moved; `None` stays unlimited. `SliceSource::read` and `VecSink::write`
+/// call it.
 pub(crate) fn remaining_allowance(allowance: Option<usize>, count: usize) -> Option<usize>
     requires { ForSome allowance (λ left. count ≤ left) }
     ensures { result ≡ option_map (λ left. left - count) allowance }

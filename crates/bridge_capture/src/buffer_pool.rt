@@ -27,8 +27,8 @@ impl<A: Allocator + Copy> Model for BufferPool<A> {
 }
 
 impl<A: Allocator + Copy> BufferPool<A> {
-    /// Makes a pool of capacity 0: `put` drops each buffer, and `take` returns new ones. Allocates no memory. `new` of `bridge_core` calls
-    /// it.
+    /// Makes a pool of capacity 0: `put` drops each buffer, and `take` returns new ones. Allocates no memory. `Bridge::new` of
+    /// `bridge_core` calls it.
     pub fn without_capacity(alloc: A) -> BufferPool<A>
         ensures { result ≡ 0 }
     {
@@ -46,8 +46,8 @@ impl<A: Allocator + Copy> BufferPool<A> {
         Ok(BufferPool { alloc, kept })
     }
 
-    /// Returns an emptied buffer from the pool, or a new one. Allocates no memory. Runs take the buffer of each frame that they read from
-    /// here.
+    /// Returns an emptied buffer from the pool, or a new one. Allocates no memory. A run takes from here the buffer for the next frame that
+    /// it reads.
     #[inline(always)]
     pub fn take(&mut self) -> Vec<u8, A>
         ensures fewer { self.new ≡ self.old - 1 }

@@ -56,7 +56,7 @@ impl Capture {
         ensures none { IfOk result (λ capture. records_left capture ≡ MAX_RECORDS) }
         ensures zero { IfOk result (λ capture. capture.latest ≡ 0) }
 
-        // The result is a read fault exactly if the source has failed.
+        // After a read fault, the source has failed. If the source had failed before, the result is a read fault.
         ensures read { result ≡ Err CaptureFault.Read → R.has_failed source.new ≡ true }
         ensures sure { R.never_fails source.old ≡ true → result ≢ Err CaptureFault.Read }
         ensures lasts { R.never_fails source.old ≡ true → R.never_fails source.new ≡ true }
@@ -111,7 +111,7 @@ impl Capture {
         ensures refuses { IfErr result (λ fault. HasRefused self.new fault) }
         ensures again { (fault : _) → HasRefused self.old fault → result ≡ Err fault }
 
-        // The result is a read fault exactly if the source has failed.
+        // After a read fault, the source has failed. If the source had failed before, the result is a read fault.
         ensures read { result ≡ Err CaptureFault.Read → IsReading self.old → R.has_failed source.new ≡ true }
         ensures broken { R.has_failed source.old ≡ true → IsReading self.old → result ≡ Err CaptureFault.Read }
         ensures sure { R.never_fails source.old ≡ true → IsReading self.old → result ≢ Err CaptureFault.Read }
@@ -159,7 +159,7 @@ impl Capture {
         ensures refuses { IfErr result (λ fault. HasRefused self.new fault) }
         ensures again { (fault : _) → HasRefused self.old fault → result ≡ Err fault }
 
-        // The result is a read fault exactly if the source has failed.
+        // After a read fault, the source has failed. If the source had failed before, the result is a read fault.
         ensures read { result ≡ Err CaptureFault.Read → IsReading self.old → R.has_failed source.new ≡ true }
         ensures broken { R.has_failed source.old ≡ true → IsReading self.old → result ≡ Err CaptureFault.Read }
         ensures sure { R.never_fails source.old ≡ true → IsReading self.old → result ≢ Err CaptureFault.Read }

@@ -49,7 +49,7 @@ impl CaptureFault {
     ghost use Rattle.std.specs.Prelude.{◌≡◌};
     ghost use Rattle.bridge_capture.specs.FaultCodes.{fault_code};
 
-    /// Returns the number of the fault, 1 to 13. Contracts compare faults by it.
+    /// Returns the number of the fault, 1 to 13. Contracts compare faults by this number.
     pub fn number(self) -> u8
         ensures { result ≡ fault_code self }
     {

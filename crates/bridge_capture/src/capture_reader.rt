@@ -22,7 +22,7 @@ pub struct CaptureReader<A: Allocator + Copy> {
     pub number: u8,
     /// Capture, which has been read up to the end of the frame ahead.
     pub capture: Capture,
-    /// Next frame; `None` at the capture's end.
+    /// Next frame; `None` at the capture's end, and after a run has taken the frame.
     pub ahead: Option<Packet<A>>,
 }
 

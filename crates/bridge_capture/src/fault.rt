@@ -21,7 +21,7 @@ pub enum RunFault {
 impl RunFault {
     ghost use Rattle.bridge_capture.specs.RunFaultCodes.{fault_code};
 
-    /// Returns the number of the fault, 1 to 3. Contracts compare faults by it.
+    /// Returns the number of the fault, 1 to 3. Contracts compare faults by this number.
     pub fn number(self) -> u8
         ensures { result ≡ fault_code self }
     {

@@ -10,7 +10,7 @@ use crate::format::{ByteOrder, CaptureFormat, FractionUnit};
 /// Length of a header in octets.
 pub const HEADER_LEN: usize = 24;
 
-/// Reads a 32-bit number from the first four octets. `parse_header` and `parse_words` call it.
+/// Reads a 32-bit number from four octets in the byte order `order`. `parse_header` and `parse_words` call it.
 pub fn read_word(order: ByteOrder, octets: &[u8]) -> u32
     requires { length octets.now ≡ 4 }
     ensures { result ≡ word32 order octets.now }
@@ -22,7 +22,7 @@ pub fn read_word(order: ByteOrder, octets: &[u8]) -> u32
     }
 }
 
-/// Reads a 16-bit number from the first two octets. `parse_header` reads the version by it.
+/// Reads a 16-bit number from two octets in the byte order `order`. `parse_header` calls it for the version.
 fn read_short_word(order: ByteOrder, octets: &[u8]) -> u16
     requires { length octets.now ≡ 2 }
     ensures { result ≡ word16 order octets.now }
@@ -49,7 +49,7 @@ fn format_by_magic(magic: u32) -> Option<CaptureFormat>
     Some(CaptureFormat { order, unit })
 }
 
-/// Returns the format of a complete header, or its first fault. `begin` calls it.
+/// Returns the format of a complete header, or its first fault. `Capture::begin` calls it.
 pub fn parse_header(octets: &[u8]) -> Result<CaptureFormat, CaptureFault>
     requires { length octets.now ≡ 24 }
     ensures judged { result ≡ format_after_magic (format_by_magic (from_le_bytes w32 (take 4 octets.now))) octets.now }

@@ -5,10 +5,10 @@ ghost use Rattle.bridge_capture.specs.Hex.{is_blank, digits_octet, spelled_octet
 use crate::hex_fault::HexFault;
 use std::alloc::Allocator;
 
-/// Largest number of octets.
+/// Largest number of octets that `parse_octets` returns.
 pub const MAX_OCTETS: usize = 1_048_576;
 
-/// Largest number of bytes of text.
+/// Largest number of bytes in a text that `parse_octets` accepts.
 pub const MAX_TEXT_BYTES: usize = 4_194_304;
 
 /// Whether a character may separate pairs of digits: a space, tab, carriage return or line feed. `parse_octets` calls it.
@@ -27,8 +27,10 @@ fn parse_octet(high: u8, low: u8) -> Option<u8>
     Some((16 * high + low) as u8)
 }
 
-/// Parses pairs of hexadecimal digits of either case, with blanks between pairs. Returns the first fault from the left. Allocates memory at
-/// most once. `wire_text` of `app_commands` calls it.
+/// Parses pairs of hexadecimal digits of either case, with blanks between pairs. Allocates memory at most once. `wire_text` of
+/// `app_commands` calls it.
+///
+/// A text over `MAX_TEXT_BYTES` is too long. For any other text, returns the first fault from the left.
 pub fn parse_octets<A: Allocator>(alloc: A, text: &[u8]) -> Result<Vec<u8, A>, HexFault>
     ensures ok { IfOk result (λ octets. spelled_octets text.now ≡ Ok octets.items) }
     ensures not_hex { result ≡ Err HexFault.NotHex → spelled_octets text.now ≡ Err HexFault.NotHex }

@@ -52,7 +52,7 @@ impl<A: Allocator> ReadBuffer<A> {
         self.end - self.start
     }
 
-    /// Fills `buf` with the next octets, which must be in the buffer. `read_with_refill` and `read` call it.
+    /// Fills `buf` with the next octets, which must be in the buffer. `read_with_refill` and `ReadAhead::read` call it.
     #[inline(always)]
     pub fn copy_front(&mut self, buf: &mut [u8])
         requires { length buf.old ≤ self.old.end - self.old.start }
@@ -74,7 +74,7 @@ impl<A: Allocator> ReadBuffer<A> {
         &self.octets[self.start..self.end]
     }
 
-    /// Drops the first `count` octets, which must be in the buffer. `ReadAhead` calls it after a record was used.
+    /// Drops the first `count` octets, which must be in the buffer. `ReadAhead::consume` calls it for octets that its caller has copied.
     #[inline(always)]
     pub fn skip(&mut self, count: usize)
         requires { count ≤ self.old.end - self.old.start }

@@ -132,8 +132,10 @@ fn read_octets<R: ByteSource, A: Allocator>(
     Ok(())
 }
 
-/// Returns the header of record `number` if the whole record is in memory and its header has no fault. For `None`, `read_unbuffered_record`
-/// reads the record. `read_next_record` calls it.
+/// Returns the header of record `number` if the whole record is in `lent`, the source's buffered octets, and has no fault. For `None`,
+/// `read_unbuffered_record` reads the record.
+///
+/// `read_next_record` calls it.
 #[inline(always)]
 fn parse_buffered_header(
     form: CaptureFormat,
@@ -203,7 +205,8 @@ pub fn read_next_record<R: ByteSource, A: Allocator>(
     }))
 }
 
-/// Reads record `number` if it isn't completely in memory, or if it has a fault. `read_next_record` calls it, with its own parameters.
+/// Reads record `number` if it isn't completely in memory, or if it has a fault, such as one record too many. `read_next_record` calls it,
+/// with its own parameters.
 #[cold]
 #[inline(never)]
 fn read_unbuffered_record<R: ByteSource, A: Allocator>(

@@ -58,7 +58,7 @@ impl<'a> SliceSource<'a> {
         SliceSource::with_limits(octets, Some(count), usize::MAX)
     }
 
-    /// Makes a source that never fails and gives at most one octet per call.
+    /// Makes a source that never fails and gives at most one octet per call. Tests of incomplete reads call it.
     pub fn with_single_octets(octets: &'a [u8]) -> SliceSource<'a>
         ensures octets { result.octets ≡ octets.entry.now }
         ensures never { result.allowance ≡ None }
@@ -106,7 +106,8 @@ impl<'a> ByteSource for SliceSource<'a> {
         ensures lasts { is_unfailing_source self.old ≡ true → is_unfailing_source self.new ≡ true }
         ensures stays { self.old.is_broken ≡ true → IsErr result }
 
-        // The source fails only after its allowance, and subtracts the octets that it gives.
+        // The source fails only if it has failed before, or if its allowance is 0. It subtracts the octets that it gives from the
+        // allowance.
         ensures spent { OnErr result ((self.old.is_broken ≡ true) ⊎ (self.old.allowance ≡ Some 0)) }
         ensures dry { self.old.allowance ≡ Some 0 → 0 < length buf.old → IsErr result }
         ensures counted { IfOk result (λ n. self.new.allowance ≡ option_map (λ left. left - n) self.old.allowance) }

@@ -8,7 +8,9 @@ use crate::byte_sink::ByteSink;
 use crate::byte_source::{Broken, ByteSource};
 
 /// Fills `buf` with octets of the source, and returns their number. The number is less than the buffer's length only at the end of the
-/// source. `begin`, `read_octets` and `read_unbuffered_record` call it.
+/// source.
+///
+/// `Capture::begin`, `read_octets` and `read_unbuffered_record` call it.
 #[inline(always)]
 pub fn fill_buffer<R: ByteSource>(source: &mut R, buf: &mut [u8]) -> Result<usize, Broken>
     ensures count { IfOk result (λ n. n ≤ length buf.new) }
@@ -89,7 +91,9 @@ pub fn write_all<W: ByteSink>(sink: &mut W, octets: &[u8]) -> Result<(), Broken>
 }
 
 /// Writes all octets, by one write after the other until the sink has accepted all. If a write fails, returns how many octets the sink
-/// accepted before it. `write_all` calls it only if the first write left octets over.
+/// accepted before.
+///
+/// `write_all` calls it after an incomplete first write, and `flush_octets` calls it for held octets.
 #[cold]
 #[inline(never)]
 pub fn write_by_many_writes<W: ByteSink>(sink: &mut W, octets: &[u8]) -> Result<(), usize>

@@ -65,7 +65,7 @@ impl<A: Allocator> VecSink<A> {
         VecSink::with_limits(alloc, Some(count), usize::MAX)
     }
 
-    /// Makes an empty sink that accepts at most one octet per call, and fails only if memory runs out.
+    /// Makes an empty sink that accepts at most one octet per call, and fails only if memory runs out. Tests of incomplete writes call it.
     pub fn with_single_octets(alloc: A) -> VecSink<A>
         ensures octets { result.octets ≡ [] }
         ensures never { result.allowance ≡ None }
@@ -96,7 +96,7 @@ impl<A: Allocator> VecSink<A> {
         }
     }
 
-    /// Returns the octets in the sink. The program prints them without arguments, and network runs pass them on.
+    /// Returns the octets in the sink. If the program has no arguments, it prints them. Network runs deliver them over links.
     pub fn octets(&self) -> &[u8]
         ensures { result.now ≡ self.now.octets }
     {

@@ -53,7 +53,8 @@ impl<W: Write + Drop, A: Allocator> WriteBehind<W, A> {
         }
     }
 
-    /// Writes the octets held back, and returns the writer. A failed writer is never called again. A run calls it after its last frame.
+    /// Writes the octets held back, and returns the writer. A failed writer is never called again. Functions of `app_commands` call it
+    /// after the last frame.
     pub fn finish(mut self) -> Result<W, Broken>
         ensures contents { IfOk result (λ writer. Keeps (⟦<WriteBehind<W, A> as ByteSink>⟧.contents self)
             (W.contents writer)) }

@@ -6,7 +6,7 @@ ghost use Rattle.bridge_capture.specs.declared.write_buffer.TheConstants.{MAX_BL
 use bridge_limits::NoMemory;
 use std::alloc::Allocator;
 
-/// Largest block: whole pages of a file.
+/// Largest block in octets: whole pages of a file.
 pub const MAX_BLOCK: usize = 131_072;
 
 /// Length of the longest written record in octets. An incomplete block always has room for one more record.
@@ -74,8 +74,10 @@ impl<A: Allocator> WriteBuffer<A> {
         self.octets.len() - self.count
     }
 
-    /// Whether the sink may add `more` octets before it writes a block. The buffer must contain less than a block, and `more` be at most a
-    /// record's length. `WriteBehind::write` and `WriteBehind::write_words` call it.
+    /// Whether the sink may add `more` octets before it writes a block: the buffer contains less than a block, and `more` is at most the
+    /// longest record's length.
+    ///
+    /// `WriteBehind::write` and `WriteBehind::write_words` call it.
     #[inline(always)]
     pub fn has_room(&self, more: usize) -> bool
         ensures { result ≡ true → more ≤ vec_len self.now.octets - self.now.count }
@@ -125,7 +127,7 @@ impl<A: Allocator> WriteBuffer<A> {
         self.count = to;
     }
 
-    /// Drops the first `count` octets, after they were written. `WriteBehind` calls it if the sink accepted only a part.
+    /// Drops the first `count` octets, after they were written. `flush_octets` calls it.
     pub fn skip(&mut self, count: usize)
         requires { count ≤ self.old.count }
         ensures octets { held_octets self.new ≡ drop count (held_octets self.old) }

@@ -32,6 +32,6 @@ module _ {A : Type 0} (p : Plan A) (q c : ℕ) where
   no_outsider : outsider_in_queue p ((2, a_filter (Some 7)) ∷ (3, a_filter (Some 7)) ∷ []) 7 q c ≡ None
   no_outsider = refl
 
-  -- Filter 5 of group 8 and filter 4 without a group reach the queue too, and 4 is the least.
+  -- If filter 5 of group 8 and filter 4 without a group reach the queue too, the lowest outsider is filter 4.
   two_outsiders : reaches_queue p (a_filter None) q c ≡ true → outsider_in_queue p ((2, a_filter (Some 7)) ∷ (5, a_filter (Some 8)) ∷ (4, a_filter None) ∷ []) 7 q c ≡ Some 4
   two_outsiders reach = rw reach refl

@@ -38,8 +38,7 @@ is_greatest_number filters n = list_all (λ g. nat_le g.0 n) filters
 abbrev pub has_catch_all : List (ℕ × FilterPlan) → Bool
 has_catch_all filters = list_any (λ g. is_greatest_number filters g.0 && not (is_some g.1.handle) && not (is_some g.1.priority)) filters
 
--- The least number of a filter in the list, except `n`, whose reachable queues include class `c` at port `q`, or
--- `None`.
+-- The lowest number, other than `n`, of a filter in the list that can reach class `c` at port `q`; `None` without such a filter.
 abbrev pub other_in_queue : {A : Type 0} → Plan A → List (ℕ × FilterPlan) → ℕ → ℕ → ℕ → Option ℕ
 other_in_queue p [] n q c = None
 other_in_queue p (g ∷ gs) n q c = if not (nat_eq g.0 n) && reaches_queue p g.1 q c then lesser_number (Some g.0) (other_in_queue p gs n q c) else other_in_queue p gs n q c
@@ -49,8 +48,7 @@ abbrev pub is_in_group : ℕ → Option ℕ → Bool
 is_in_group k None = false
 is_in_group k (Some g) = nat_eq g k
 
--- The least number of a filter in the list, outside group `k`, whose reachable queues include class `c` at port `q`, or
--- `None`.
+-- The lowest number of a filter in the list, outside group `k`, that can reach class `c` at port `q`; `None` without such a filter.
 abbrev pub outsider_in_queue : {A : Type 0} → Plan A → List (ℕ × FilterPlan) → ℕ → ℕ → ℕ → Option ℕ
 outsider_in_queue p [] k q c = None
 outsider_in_queue p (g ∷ gs) k q c = if not (is_in_group k g.1.group) && reaches_queue p g.1 q c then lesser_number (Some g.0) (outsider_in_queue p gs k q c) else outsider_in_queue p gs k q c
@@ -176,7 +174,7 @@ member_fault p k n f = first_test_fault (member_tests p k n f)
 abbrev pub is_tested : FilterPlan → Bool
 is_tested f = f.protected || is_some f.group
 
--- The group whose filters may share queues with the filter; `None` for a protected filter, which shares none.
+-- The group whose filters may share queues with the filter; `None` for a protected filter or a filter without a group, which share none.
 abbrev pub queue_group : FilterPlan → Option ℕ
 queue_group f = if f.protected then None else f.group
 
@@ -186,7 +184,8 @@ abbrev pub tests_in_group : {A : Type 0} → Plan A → Option ℕ → ℕ → F
 tests_in_group p None n f = filter_tests p n f
 tests_in_group p (Some k) n f = member_tests p k n f
 
--- The test results for filter `f` with number `n`: results of protected filters, or if `f` is grouped, of grouped filters.
+-- The test results for filter `f` with number `n`. If `f` is grouped and unprotected, they are the tests of a grouped filter; otherwise, of
+-- a protected filter.
 abbrev pub kind_tests : {A : Type 0} → Plan A → ℕ → FilterPlan → List (Option CheckFault)
 kind_tests p n f = tests_in_group p (queue_group f) n f
 
@@ -213,12 +212,12 @@ lesser_fault (Some a) (Some b) = if nat_lt b.0 a.0 then Some b else Some a
 abbrev pub numbered_fault : {A : Type 0} → Plan A → ℕ × FilterPlan → Option (ℕ × CheckFault)
 numbered_fault p f = if is_tested f.1 then option_map (λ e. (f.0, e)) (first_test_fault (kind_tests p f.0 f.1)) else None
 
--- The number and the first fault of the lowest-numbered faulty filter in the list, as a pair, or `None`.
+-- The number and the first fault of the lowest-numbered faulty filter in the list, as a pair; `None` if no filter is faulty.
 abbrev pub least_fault : {A : Type 0} → Plan A → List (ℕ × FilterPlan) → Option (ℕ × CheckFault)
 least_fault p [] = None
 least_fault p (f ∷ fs) = lesser_fault (numbered_fault p f) (least_fault p fs)
 
--- The fault that `check` reports for plan `p`, or `None`: the first fault of the lowest-numbered faulty filter, protected
--- or grouped.
+-- The fault that `check` reports for plan `p`: the first fault of the lowest-numbered faulty filter, protected or grouped. `None` if no
+-- filter is faulty.
 abbrev pub first_fault : {A : Type 0} → Plan A → Option CheckFault
 first_fault p = option_map (λ x. x.1) (least_fault p p.filters)

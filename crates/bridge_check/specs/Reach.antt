@@ -17,8 +17,8 @@ use Rattle.bridge_config.specs.declared.ports.PortPlan.{PortPlan}
 use Rattle.bridge_config.specs.Model.{Plan}
 use Rattle.bridge_config.specs.Rules.{find_port}
 
--- True if entries of this kind compare the destination address (null stream identification), false if they compare the
--- source address (IEEE 802.1CB-2017, 6.4).
+-- True if stream entries of this kind compare the destination address (null stream identification). False if they
+-- compare the source address (IEEE 802.1CB-2017, 6.4).
 abbrev pub is_null_kind : Kind → Bool
 is_null_kind Null = true
 is_null_kind Source = false
@@ -33,8 +33,8 @@ are_null_kinds h streams = list_all (λ e. not (nat_eq e.handle h) || is_null_ki
 abbrev pub leads_through_port : Database → ℕ → ℕ → List StreamEntry → Bool
 leads_through_port db h q streams = list_any (λ e. nat_eq e.handle h && has_port (forward db e.port e.vid e.address) q) streams
 
--- True if frames with this optional handle may leave by port `q`. Every port counts if the handle is missing or has an
--- entry that compares source addresses.
+-- True if frames with this optional handle may leave by port `q`. True for every port if the handle is missing or has
+-- an entry that compares source addresses.
 abbrev pub reaches_port : {A : Type 0} → Plan A → Option ℕ → ℕ → Bool
 reaches_port p None q = true
 reaches_port p (Some h) q = not (are_null_kinds h p.streams) || leads_through_port p.database h q p.streams
@@ -62,11 +62,13 @@ has_priority_value (Some ipv) priority k = nat_eq ipv k
 has_priority_value None (Some n) k = nat_eq n k
 has_priority_value None None k = true
 
--- True if gate entry `e` is open and can pass a frame so that priority `k` selects the frame's queue.
+-- True if gate entry `e` is open and can pass a frame so that priority `k` selects the frame's queue. `priority` is the
+-- filter's.
 abbrev pub gives_priority : GateEntry → Option ℕ → ℕ → Bool
 gives_priority e priority k = e.lets && has_priority_value e.ipv priority k
 
 -- True if some gate entry in the list is open and can pass a frame so that priority `k` selects the frame's queue.
+-- `priority` is the filter's.
 abbrev pub lets : List GateEntry → Option ℕ → ℕ → Bool
 lets entries priority k = list_any (λ e. gives_priority e priority k) entries
 

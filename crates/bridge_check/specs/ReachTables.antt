@@ -78,7 +78,8 @@ case_tests p group n f =
     ∷ size_fault p n f
     ∷ []
 
--- Holds if a case's tables are correct: every filter's reach, the filter's own reach, and the catch-all flag. A size limit is at most 65,535 octets.
+-- Holds if a case's tables are correct: every filter's reach, the filter's own reach, and the catch-all flag. A size
+-- limit is at most 65,535 octets.
 pub record IsCase {A : Type 0} (case : FilterCase A) : Type 0 where
   pub reaches : case.reaches.now ≡ all_reaches case.plan.now case.plan.now.filters
   pub reach : case.reach ≡ filter_reach case.plan.now case.filter

@@ -45,7 +45,7 @@ pub enum CheckFault {
         other: u32,
     },
     /// The port opens the queue's class together with another class, first at the offset `at` in ns. The old list of a schedule change
-    /// comes first. A port without a list gives 0.
+    /// comes first. If the port has no list, `at` is 0.
     #[error("its window is shared with another class")]
     WindowShared {
         filter: u32,
@@ -66,7 +66,7 @@ pub enum CheckFault {
 }
 
 impl CheckFault {
-    /// Returns the fault's number, 1 to 9 in the order of the variants. Contracts compare faults by it.
+    /// Returns the fault's number, 1 to 9 in the order of the variants. Contracts compare faults by this number.
     pub fn number(self) -> u8
         ensures { result ≡ fault_code self }
     {
@@ -83,7 +83,8 @@ impl CheckFault {
         }
     }
 
-    /// Returns the number of the filter that fails the test; `None` if memory ran out. Explanations and pictures look the filter up by it.
+    /// Returns the number of the filter that fails the test; `None` if memory ran out. Explanations and pictures find the filter by this
+    /// number.
     pub fn filter(self) -> Option<u32>
         ensures { result ≡ fault_filter self }
     {

@@ -51,8 +51,8 @@ fn push_filter_faults<A: Allocator + Copy>(
     push_failing(faults, &test_filter(plan, reaches, catches, number, filter))
 }
 
-/// Returns every fault of `plan`, by filter, then by test. A test of queues reports only the first queue that fails. The list is empty
-/// exactly if `check` accepts the plan.
+/// Returns every fault of `plan`: in the plan's order of filters, then by test. A test of queues reports only the first queue that fails.
+/// If `check` accepts the plan, the list is empty.
 ///
 /// `explain_check` of `show_lint` calls it.
 pub fn all_faults<A: Allocator + Copy>(

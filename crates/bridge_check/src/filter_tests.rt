@@ -17,7 +17,7 @@ use std::alloc::Allocator;
 /// Which of the three tests of a filter's reachable queues is made.
 #[derive(Clone, Copy)]
 pub(crate) enum QueueTest {
-    /// Test 6: can another filter reach the queue, or for a grouped filter an outsider?
+    /// Test 6: can another filter reach the queue? For a grouped filter, only filters outside its group count.
     Shared,
     /// Test 7: does the port open another class together with the queue's class?
     Window,
@@ -42,7 +42,8 @@ struct FilterCase<'a, A: Allocator + Copy> {
     reach: Reach,
 }
 
-/// Whether another filter uses the stream gate of `filter`. Its frames could then shut the gate, so test 3 fails. `run_tests` calls it.
+/// Whether another filter uses the stream gate of `filter`. If so, test 3 fails, because frames of the other filter could close the gate.
+/// `run_tests` calls it.
 fn is_gate_shared(filters: &[(u32, FilterPlan)], number: u32, filter: &FilterPlan) -> bool
     ensures { result ≡ spec.is_gate_shared filters.now number filter.now }
 {
@@ -61,7 +62,8 @@ fn is_same_meter(a: Option<u32>, b: Option<u32>) -> bool
     }
 }
 
-/// Whether another filter uses the meter of `filter`. Its frames could then empty the buckets, so test 4 fails. `run_tests` calls it.
+/// Whether another filter uses the meter of `filter`. If so, test 4 fails, because frames of the other filter could empty the buckets.
+/// `run_tests` calls it.
 fn is_meter_shared(filters: &[(u32, FilterPlan)], number: u32, filter: &FilterPlan) -> bool
     ensures { result ≡ spec.is_meter_shared filters.now number filter.now }
 {
@@ -85,14 +87,15 @@ pub(crate) fn has_catch_all(filters: &[(u32, FilterPlan)]) -> bool
     })
 }
 
-/// Whether `check` tests a filter. `push_filter_faults` and `numbered_fault` call it.
+/// Whether `check` tests `filter`: only protected and grouped filters have tests. `push_filter_faults` and `numbered_fault` call it.
 pub(crate) fn is_tested(filter: &FilterPlan) -> bool
     ensures { result ≡ spec.is_tested filter.now }
 {
     filter.protected || filter.group.is_some()
 }
 
-/// Returns the group whose filters may share queues with a filter; `None` for a protected filter. `other_filter_in_queue` calls it.
+/// Returns the group whose filters may share queues with a filter; `None` for a protected filter or a filter without a group.
+/// `other_filter_in_queue` calls it.
 fn queue_group(filter: &FilterPlan) -> Option<u32>
     ensures { result ≡ spec.queue_group filter.now }
 {

@@ -60,7 +60,7 @@ pub fn reach_is_sound<A: Allocator + Copy>()
         → reaches_queue p f out.number (frame_class out ipv (frame_priority port head.tag)) ≡ true }
 {}
 
-/// Every frame matches a filter, if some protected filter fails no test. The isolation theorem rests on it.
+/// If a filter passes all tests of a protected filter, every frame matches some filter of the plan. The isolation theorem rests on it.
 pub fn every_frame_has_a_filter<A: Allocator + Copy>()
     ensures { (p : Plan A) (n : ℕ) (f : FilterPlan) (c : FilterInput)
         → IsPlan p

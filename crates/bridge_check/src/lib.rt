@@ -1,6 +1,8 @@
 #![tactic(auto)]
 //! Tests whether a plan isolates its protected filters and its groups. A protected filter needs its stream gate, meter, queues and windows
-//! for itself; a grouped filter shares its queues with its group. A refused plan has a first fault, by filter, port and class.
+//! for itself; a grouped filter shares its queues with its group.
+//!
+//! A refused plan has a first fault: by filter number, then by test, port and class.
 
 mod check_fault;
 mod faults;

@@ -13,7 +13,8 @@ use bridge_gate::{GateEntry, GatePlan, Schedule};
 use bridge_ident::{Kind, StreamEntry};
 use std::alloc::Allocator;
 
-/// Whether entries of kind `kind` compare the destination address, which decides the egress ports of a frame. `are_null_kinds` calls it.
+/// Whether stream entries of kind `kind` compare the destination address, which decides the egress ports of a frame. `are_null_kinds` calls
+/// it.
 fn is_null_kind(kind: Kind) -> bool
     ensures { result ≡ spec.is_null_kind kind }
 {
@@ -42,8 +43,8 @@ fn mark_ports(ports: &mut [bool; 16], set: PortSet)
     }
 }
 
-/// Returns a flag for each port, from port 1: whether frames that the entries of `handle` identify can leave by it. `reached_ports` calls
-/// it.
+/// Returns a flag for each port, from port 1: whether frames that the stream entries with `handle` identify can leave by this port.
+/// `reached_ports` calls it.
 fn destination_ports<A: Allocator + Copy>(plan: &Plan<A>, handle: u32) -> [bool; 16]
     ensures { result ≡ reached.test_results 16 (λ i. spec.leads_through_port plan.now.database handle (i
         + 1) plan.now.streams) }
@@ -59,7 +60,7 @@ fn destination_ports<A: Allocator + Copy>(plan: &Plan<A>, handle: u32) -> [bool;
 }
 
 /// Whether `entry` is open and can give a frame priority `k`: by its internal priority value, or without one by the filter's `priority`. If
-/// both are missing, it can give each.
+/// both are missing, it can give each priority.
 ///
 /// `entries_give_priority` and `lets` call it.
 fn gives_priority(entry: &GateEntry, priority: Option<u8>, k: u8) -> bool
@@ -75,7 +76,7 @@ fn gives_priority(entry: &GateEntry, priority: Option<u8>, k: u8) -> bool
     }
 }
 
-/// Whether some entry in `entries` is open and can give a frame priority `k`. `lets` calls it.
+/// Whether some entry in `entries` is open and can give a frame priority `k`; `priority` is the filter's. `lets` calls it.
 fn entries_give_priority(entries: &[(GateEntry, u64)], priority: Option<u8>, k: u8) -> bool
     ensures { result ≡ spec.lets (map (λ e. e.0) entries.now) priority k }
 {
@@ -87,7 +88,9 @@ fn entries_give_priority(entries: &[(GateEntry, u64)], priority: Option<u8>, k: 
     false
 }
 
-/// Whether some entry of `schedule` is open and can give a frame priority `k`. If a schedule change joins two lists, either list counts.
+/// Whether some entry of `schedule` is open and can give a frame priority `k`; `priority` is the filter's. If a schedule change joins two
+/// lists, either list counts.
+///
 /// `given_priorities` calls it.
 #[tactic(auto, using(crate::proofs::Both::lets_both))]
 fn lets<A: Allocator + Copy>(schedule: &Schedule<A>, priority: Option<u8>, k: u8) -> bool
@@ -111,7 +114,8 @@ fn lets<A: Allocator + Copy>(schedule: &Schedule<A>, priority: Option<u8>, k: u8
     }
 }
 
-/// Returns a flag for each priority, from 0: whether some open entry of `schedule` can give it. `reached_priorities` calls it.
+/// Returns a flag for each priority, from 0: whether some open entry of `schedule` can give it. `priority` is the filter's.
+/// `reached_priorities` calls it.
 fn given_priorities<A: Allocator + Copy>(schedule: &Schedule<A>, priority: Option<u8>) -> [bool; 8]
     ensures { result ≡ reached.test_results 8 (spec.lets (spec.schedule_entries schedule.now) priority) }
 {
@@ -147,8 +151,10 @@ pub struct Reach {
     pub priorities: [bool; 8],
 }
 
-/// Returns a flag for each port, from port 1: whether frames with `handle` can leave by it. Every port counts if the destination addresses
-/// are unknown. `filter_reach` calls it.
+/// Returns a flag for each port, from port 1: whether frames with `handle` can leave by this port. If their destination addresses are
+/// unknown, all flags are true.
+///
+/// `filter_reach` calls it.
 fn reached_ports<A: Allocator + Copy>(plan: &Plan<A>, handle: Option<u32>) -> [bool; 16]
     ensures { result ≡ reached.test_results 16 (λ i. spec.reaches_port plan.now handle (i + 1)) }
 {
@@ -220,7 +226,9 @@ pub fn can_wait_in_reach<A: Allocator + Copy>(
 }
 
 impl Reach {
-    /// Whether the frames can enter class `class` at port `port`. `classes` gives the class of each priority.
+    /// Whether the filter's frames can enter the queue of class `class` at port `port`. `classes` gives the class of each priority.
+    ///
+    /// `can_wait`, `can_wait_in_reach`, `reaches_queue` and `least_outsider` call it.
     pub(crate) fn has_queue(&self, port: u8, classes: &[u8; 8], class: u8) -> bool
         requires from { 1 ≤ port }
         requires to { port ≤ 16 }

@@ -43,7 +43,7 @@ pub(crate) fn all_reaches<A: Allocator + Copy>(
     Ok(reaches)
 }
 
-/// Returns the lower one of `number` and `least`; `number` if `least` is `None`. `least_outsider` searches with it.
+/// Returns the lower one of `number` and `least`; `number` if `least` is `None`. `least_outsider` calls it.
 fn lesser_number(least: Option<u32>, number: u32) -> u32
     ensures { Some result ≡ lesser_number least (Some number) }
 {

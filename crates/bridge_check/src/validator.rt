@@ -52,7 +52,7 @@ impl<A: Allocator + Copy> Accepted<A> {
 pub struct Refused<A: Allocator + Copy> {
     /// The refused plan, unchanged.
     pub plan: Plan<A>,
-    /// Its first fault, by filter, port and class.
+    /// Its first fault: by filter number, then by test, port and class.
     pub fault: CheckFault,
 }
 

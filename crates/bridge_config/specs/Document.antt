@@ -90,7 +90,7 @@ read_plan arrays = do
 abbrev pub document_plan : {A : Type 0} → Members → Result (Plan A) PlanFault
 document_plan members = read_arrays members >>= read_plan
 
--- Document in a text of at most 1,048,576 octets of UTF-8.
+-- Document in a text of at most 1,048,576 octets of UTF-8; or the fault `TooLong` or `Syntax`.
 unfoldable pub read_document : List ℕ → Result Members PlanFault
 read_document = reading.document_of fault.TooLong fault.Syntax
 
@@ -98,7 +98,7 @@ read_document = reading.document_of fault.TooLong fault.Syntax
 abbrev pub text_plan : {A : Type 0} → List ℕ → Result (Plan A) PlanFault
 text_plan text = read_document text >>= document_plan
 
--- Items of the only section of a document of commands.
+-- Items of the only section of a document of commands, or the first fault.
 unfoldable pub command_items : Members → Result Items PlanFault
 command_items members = do
   keys ← provided (has_only_sections (section.Command ∷ []) members) (fault.UnknownKey section.Top 0)

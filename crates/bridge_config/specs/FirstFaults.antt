@@ -1,4 +1,4 @@
--- First fault of a table whose keys are read one after another. No public clause uses it.
+-- First fault of a table whose keys are read one after another. No public clause uses these definitions.
 use Rattle.std.specs.Prelude.{◌≡◌, Bool, Option, Some, None, Result, Ok, Err, if◌then◌else◌}
 use Rattle.bridge_schema.specs.declared.plan_fault.Field.{Field}
 use Rattle.bridge_schema.specs.declared.plan_fault.KeyLocation.{KeyLocation}
@@ -45,13 +45,13 @@ pub record Expects (old : Option PlanFault) (holds : Bool) (e : PlanFault) (new 
 pub record EndsReading {A : Type 0} (fault : Option PlanFault) (x : A) (r : Result A PlanFault) : Type 0 where
   pub is : r ≡ unless_fault fault x
 
--- Holds if an earlier fault stays. Otherwise `x` is the value of `read`, or the new fault is the fault of `read`,
--- unless memory ran out.
+-- Holds if an earlier fault stays. Otherwise `x` is the value of `read`; if there is a new fault, it is the fault of
+-- `read`, or memory ran out.
 abbrev pub ReadsUnlessFault : {A : Type 0} → Option PlanFault → Result A PlanFault → Option PlanFault → A → Type 0
 ReadsUnlessFault (Some e) read new x = new ≡ Some e
 ReadsUnlessFault None read None x = read ≡ Ok x
 ReadsUnlessFault None read (Some e) x = IsReadFault e read
 
--- Holds if `ReadsUnlessFault` holds. Contracts of `take_port_lists` and `take_gate_lists` state it.
+-- `ReadsUnlessFault` as a record, which the contracts of `take_port_lists` and `take_gate_lists` state.
 pub record ReadsLists {A : Type 0} (old : Option PlanFault) (read : Result A PlanFault) (new : Option PlanFault) (x : A) : Type 0 where
   pub reads : ReadsUnlessFault old read new x

@@ -1,4 +1,4 @@
--- Parts of a list. No public clause uses them.
+-- Parts of a gate control list, before the rules of lists are tested. No public clause uses this definition.
 use Rattle.std.specs.Prelude.{option_map}
 use Rattle.bridge_config.specs.declared.lists.ListParts.{ListParts}
 use Rattle.bridge_config.specs.Sections as sections

@@ -1,4 +1,4 @@
--- Contents of a plan, as contracts see them.
+-- Contents of a plan, as contracts describe them.
 use Rattle.std.specs.Prelude.{ℕ, List}
 use Rattle.bridge_meter.specs.declared.MeterPlan.{MeterPlan}
 use Rattle.bridge_gate.specs.declared.schedule.GatePlan.{GatePlan}

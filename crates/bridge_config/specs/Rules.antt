@@ -70,7 +70,7 @@ pub record ArePorts {A : Type 0} (ports : List (PortPlan A)) : Type 0 where
   pub each : All IsPort ports
   pub own : has_no_duplicate (λ p q. nat_eq p.number q.number) ports ≡ true
 
--- Set of the numbers of all ports in the list; bit n - 1 of the set stands for port n.
+-- Set of the numbers of all ports in the list; bit n - 1 is set if a port has number n.
 abbrev pub port_set : {A : Type 0} → List (PortPlan A) → ℕ
 port_set ports = add_to_set 1 0 (map (λ p. p.number) ports)
 
@@ -115,7 +115,7 @@ pub record IsStream {A : Type 0} (ports : List (PortPlan A)) (s : StreamEntry) :
   pub vid_to : s.vid ≤ 4094
   pub address : length s.address ≡ 6
 
--- Holds if the gate's list is valid, and its internal priority values are 0 to 7 or absent.
+-- Holds if the stream gate's list is valid, and its internal priority values are 0 to 7 or absent.
 pub record IsGateList (l : Cyclic GateEntry) : Type 0 where
   pub lawful : IsLawful l
   pub priorities : All (λ e. schedules.is_valid_priority e.0.ipv ≡ true) l.entries

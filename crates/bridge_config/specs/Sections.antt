@@ -37,13 +37,13 @@ use Rattle.bridge_config.specs.declared.ports.PortPlan.{PortPlan}
 abbrev pub no_duplicate : Section → ℕ → Bool → Result Bool PlanFault
 no_duplicate section index stands = provided (not stands) (fault.Duplicate section index)
 
--- Parts of a list: base time and cycle time in ns, and optional entries.
+-- Parts of a gate control list: base time and cycle time in ns, and optional entries.
 pub record ListParts (X : Type 0) : Type 0 where
   pub base : ℕ
   pub cycle : ℕ
   pub entries : Option (List X)
 
--- Reads the parts of a list from three keys: base time, cycle time and entries.
+-- Reads the parts of a gate control list from three keys: base time, cycle time and entries.
 unfoldable pub read_list_parts : {X : Type 0} → Section → ℕ → Field → Field → Field → (Members → Result X PlanFault) → Members → Result (ListParts X) PlanFault
 read_list_parts section index base_key cycle_key entries_key entry members =
     let at : Field → KeyLocation = λ key. record { section = section; index = index; field = key } in do
@@ -52,11 +52,11 @@ read_list_parts section index base_key cycle_key entries_key entry members =
       entries ← read_optional_list (at entries_key) entry (get_member (key_name entries_key) members)
       Ok (record { base = base; cycle = cycle; entries = entries })
 
--- List made from its parts; BadList if the parts break a rule of lists.
+-- Gate control list made from its parts; the fault BadList if the parts break a rule of lists.
 abbrev pub checked_list : {S : Type 0} → Section → ℕ → ℕ → ℕ → List (S × ℕ) → Result (Cyclic S) PlanFault
 checked_list section index base cycle entries = elim (first_fault cycle entries) [ None ↦ Ok (record { base = base; cycle = cycle; entries = entries }) | Some e ↦ Err (fault.BadList section index e) ]
 
--- List made from its parts, or its fault; `None` if there are no entries.
+-- Gate control list made from its parts, or its fault; `None` if there are no entries.
 abbrev pub optional_list : {S : Type 0} → Section → ℕ → ListParts (S × ℕ) → Result (Option (Cyclic S)) PlanFault
 optional_list section index parts = elim parts.entries [ None ↦ Ok None | Some entries ↦ checked_list section index parts.base parts.cycle entries >>= λ l. Ok (Some l) ]
 
@@ -78,7 +78,7 @@ read_change_time index members = do
 
 -- Port.
 
--- Reads an entry: open classes as bits, and its interval in ns.
+-- Reads an entry of a port's list: open classes as bits, and the length of its intervals in ns.
 abbrev pub read_port_entry : KeyLocation → Members → Result (ℕ × ℕ) PlanFault
 read_port_entry place members = do
   classes ← read_required place field.Open (number_set 0 7) members
@@ -152,7 +152,7 @@ read_port change ports index members = read_port_by_lookup change (has_port port
 abbrev pub has_vlan_keys : Members → Bool
 has_vlan_keys members = has_known_keys (field.Vid ∷ field.Members ∷ []) members
 
--- Reads a VLAN after the earlier VLANs; `all` is the set of the plan's ports.
+-- Reads a VLAN, whose identifier no earlier VLAN may have; `all` is the set of the plan's ports.
 unfoldable pub read_vlan : ℕ → List Vlan → ℕ → Members → Result Vlan PlanFault
 read_vlan all vlans index members =
     let at : Field → KeyLocation = λ key. record { section = section.Vlan; index = index; field = key } in do
@@ -168,7 +168,7 @@ read_vlan all vlans index members =
 abbrev pub has_static_keys : Members → Bool
 has_static_keys members = has_known_keys (field.Vid ∷ field.Address ∷ field.Ports ∷ []) members
 
--- Reads a static entry after the earlier entries; `all` is the set of the plan's ports.
+-- Reads a static entry, whose VLAN and address no earlier entry may have both; `all` is the set of the plan's ports.
 unfoldable pub read_static : ℕ → List Vlan → List StaticEntry → ℕ → Members → Result StaticEntry PlanFault
 read_static all vlans statics index members =
     let at : Field → KeyLocation = λ key. record { section = section.Static; index = index; field = key } in do
@@ -204,7 +204,8 @@ read_stream ports earlier index members = read_stream_by_lookup (has_port ports)
 
 -- Stream gate.
 
--- Reads an entry: its state, internal priority value and octet limit, and its interval in ns.
+-- Reads an entry of a stream gate's list: state, internal priority value, octet limit, and the length of its intervals
+-- in ns.
 abbrev pub read_gate_entry : KeyLocation → Members → Result (GateEntry × ℕ) PlanFault
 read_gate_entry place members = do
   lets ← read_required place field.Open switch members
@@ -213,7 +214,7 @@ read_gate_entry place members = do
   octets ← read_optional place field.Octets (number_in_range 0 LARGEST_NUMBER) members
   Ok (record { lets = lets; ipv = ipv; octets = octets }, ns)
 
--- Reads the parts of a gate's list from three keys.
+-- Reads the parts of a stream gate's list from three keys.
 abbrev pub read_gate_parts : ℕ → Field → Field → Field → Members → Result (ListParts (GateEntry × ℕ)) PlanFault
 read_gate_parts index base_key cycle_key entries_key members =
     read_list_parts section.Gate index base_key cycle_key entries_key (read_gate_entry (record { section = section.Gate; index = index; field = entries_key })) members
@@ -239,14 +240,14 @@ has_gate_keys change members =
     has_known_keys (gate_keys change members) members
     && (has_known_entry_keys gate_entry_keys (get_member (key_name field.Entries) members) && has_known_entry_keys gate_entry_keys (get_member (key_name field.NextEntries) members))
 
--- Lists of a gate: no list, one list, or two lists with a schedule change.
+-- Lists of a stream gate: no list, one list, or two lists with a schedule change.
 abbrev pub gate_schedule : {A : Type 0} → Option (Cyclic GateEntry) → Option ℕ → Option (Cyclic GateEntry) → Option (Schedule A)
 gate_schedule None change new = None
 gate_schedule (Some old) None new = Some (schedule.Cyclic old)
 gate_schedule (Some old) (Some moment) None = Some (schedule.Cyclic old)
 gate_schedule (Some old) (Some moment) (Some new) = Some (schedule.Joined (record { old = old; new = new; at = moment }))
 
--- Reads the lists of a gate: the parts of the first and of the next list, then both lists.
+-- Reads the lists of a stream gate: the parts of the first and of the next list, then both lists.
 unfoldable pub read_gate_lists : {A : Type 0} → Option ℕ → ℕ → Members → Result (Option (Schedule A)) PlanFault
 read_gate_lists change index members = do
   first ← read_gate_parts index field.Base field.Cycle field.Entries members
@@ -260,7 +261,7 @@ abbrev pub schedule_or_fixed : {A : Type 0} → Bool → Option ℕ → Option (
 schedule_or_fixed lets ipv None = schedule.Fixed lets ipv
 schedule_or_fixed lets ipv (Some lists) = lists
 
--- Reads a gate with its number, after the earlier gates.
+-- Reads a stream gate with its number, which no earlier gate may have.
 unfoldable pub read_gate : {A : Type 0} → Option ℕ → List (ℕ × GatePlan A) → ℕ → Members → Result (ℕ × GatePlan A) PlanFault
 read_gate change gates index members =
     let at : Field → KeyLocation = λ key. record { section = section.Gate; index = index; field = key } in do
@@ -280,7 +281,7 @@ read_gate change gates index members =
 abbrev pub has_meter_keys : Members → Bool
 has_meter_keys members = has_known_keys (field.Number ∷ field.Cir ∷ field.Cbs ∷ field.Eir ∷ field.Ebs ∷ field.Coupling ∷ field.Colour ∷ field.DropYellow ∷ field.MarkAllRed ∷ []) members
 
--- Reads a meter with its number, after the earlier meters.
+-- Reads a meter with its number, which no earlier meter may have.
 unfoldable pub read_meter : List (ℕ × MeterPlan) → ℕ → Members → Result (ℕ × MeterPlan) PlanFault
 read_meter meters index members =
     let at : Field → KeyLocation = λ key. record { section = section.Meter; index = index; field = key } in do
@@ -323,6 +324,6 @@ read_filter_by_lookup is_gate is_meter is_filter index members =
       own ← no_duplicate section.Filter index (is_filter number)
       Ok (number, record { handle = handle; priority = priority; gate = gate; max_sdu = max_sdu; meter = meter; block_oversize = block_oversize; protected = protected; group = group })
 
--- Reads a filter with its number, after the earlier filters, for these gates and meters.
+-- Reads a filter with its number, which no earlier filter may have. The filter may name only these gates and meters.
 abbrev pub read_filter : {A : Type 0} → List (ℕ × GatePlan A) → List (ℕ × MeterPlan) → List (ℕ × FilterPlan) → ℕ → Members → Result (ℕ × FilterPlan) PlanFault
 read_filter gates meters filters index members = read_filter_by_lookup (has_number gates) (has_number meters) (has_number filters) index members

@@ -9,10 +9,11 @@ use Rattle.bridge_filter.specs.declared.Clear.{Clear}
 use Rattle.bridge_filter.specs.declared.Clear.TheVariants as clear
 
 -- Kind of identification that the text `s` means: `null` compares the destination address, `source` the source address.
+-- `None` for any other text.
 abbrev pub parse_ident_kind : List ℕ → Option Kind
 parse_ident_kind s = if pointwise nat_eq s (codes "null") then Some kind.Null else if pointwise nat_eq s (codes "source") then Some kind.Source else None
 
--- Tags of the frames that a stream entry matches; `None` for any other text.
+-- Tags of the frames that a stream entry matches: `tagged`, `priority` or `all`. `None` for any other text.
 abbrev pub parse_tag_kind : List ℕ → Option TagKind
 parse_tag_kind s =
     if pointwise nat_eq s (codes "tagged") then Some tag.Tagged
@@ -20,11 +21,13 @@ parse_tag_kind s =
     else if pointwise nat_eq s (codes "all") then Some tag.All
     else None
 
--- Whether a meter is colour-aware: it uses the drop eligible indication of a frame.
+-- Whether a meter uses the drop eligible indication of a frame: true for `aware`, false for `blind`. `None` for any
+-- other text.
 abbrev pub parse_awareness : List ℕ → Option Bool
 parse_awareness s = if pointwise nat_eq s (codes "aware") then Some true else if pointwise nat_eq s (codes "blind") then Some false else None
 
--- Flag that a command clears: of a filter, a gate or a meter.
+-- Flag that a command clears: `blocked` of a filter, `rx` or `octets` of a stream gate, `red` of a meter. `None` for
+-- any other text.
 abbrev pub parse_flag : List ℕ → Option Clear
 parse_flag s =
     if pointwise nat_eq s (codes "blocked") then Some clear.Blocked

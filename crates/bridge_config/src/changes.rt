@@ -38,7 +38,7 @@ fn read_change_time(index: u32, table: &Table) -> Result<u64, PlanFault>
     row.read_required(Field::At, &TIME)
 }
 
-/// Returns the first item; `None` without items. The section of the schedule change has at most one item. `read_change` reads it.
+/// Returns the first item of a section; `None` without items. A plan has at most one schedule change. `read_change` calls it.
 fn first_item(items: &[Value]) -> Option<&Value>
     ensures { option_map (λ v. view v.now) result ≡ doc.first_item (items_view items.now) }
 {

@@ -69,7 +69,7 @@ impl<'a, B: Allocator + Copy> NumberLookup for CommandTargets<'a, B> {
     }
 }
 
-/// Returns the time of the last command in ns, or 0 without commands. The next command may not be earlier. `read_command` requires this.
+/// Returns the time of the last command in ns, or 0 without commands. `read_command` calls it, because the next command may not be earlier.
 #[tactic(auto, using(crate::proofs::Commanded::last_some, crate::proofs::Commanded::last_none))]
 fn last_time(commands: &[Command]) -> u64
     ensures { result ≡ spec.last_time 0 commands.now }
@@ -87,8 +87,8 @@ fn has_command_keys(table: &Table) -> bool
     has_allowed_keys(table, &COMMAND_KEYS, false)
 }
 
-/// Reads the command in a table. The command may not be earlier than the last of `commands`, and must name an instance of the plan. `read`
-/// calls it.
+/// Reads the command in a table. The command may not be earlier than the last of `commands`, and must name an instance of the plan.
+/// `CommandSection::read` calls it.
 fn read_command<B: Allocator + Copy>(
     plan: &Plan<B>,
     commands: &[Command],
@@ -154,8 +154,8 @@ impl<'a, A: Allocator + Copy, B: Allocator + Copy> SectionReader<A> for CommandS
     }
 }
 
-/// Returns the `[[command]]` tables of a document, or the fault of a document with any other section. Allocates no memory. `commands_of`
-/// calls it.
+/// Returns the `[[command]]` tables of a document, or a fault: another section, no list of tables, or too many tables. Allocates no memory.
+/// `commands_of` calls it.
 #[tactic(auto, unfolding(crate::specs::Document::command_items))]
 fn command_items<'a>(table: &'a Table) -> Result<&'a [Value], PlanFault>
     ensures reads { MatchesReadingView (λ x. items_view x.now) result (doc.command_items (table_view table.now)) }

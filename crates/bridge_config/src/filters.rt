@@ -85,7 +85,9 @@ fn read_filter_by_lookup<G: NumberLookup + Copy, M: NumberLookup + Copy, F: Numb
 }
 
 /// Reads a filter and its number. `gates` and `meters` are all stream gates and meters of the plan. `filters` are the earlier filters; none
-/// may have this number. `read` calls it.
+/// may have this number.
+///
+/// `FilterSection::read` calls it.
 fn read_filter<A: Allocator + Copy>(
     gates: &[(u32, GatePlan<A>)],
     meters: &[(u32, MeterPlan)],

@@ -26,7 +26,7 @@ impl Model for FirstFault {
 }
 
 impl FirstFault {
-    /// Starts with `fault` if `holds` is false, otherwise without a fault. `read_command`, `read_filter_by_lookup` and others call it.
+    /// Starts with `fault` if `holds` is false, otherwise without a fault. The readers of tables call it first.
     pub fn begin(holds: bool, fault: PlanFault) -> FirstFault
         ensures { Expects None holds fault result }
     {
@@ -34,7 +34,7 @@ impl FirstFault {
         FirstFault { fault }
     }
 
-    /// Stores `fault` if `holds` is false and there is no earlier fault. `read_filter_by_lookup`, `value_or` and others call it.
+    /// Stores `fault` if `holds` is false and there is no earlier fault. `value_or` and the readers of tables call it.
     pub fn expect(&mut self, holds: bool, fault: PlanFault)
         ensures { Expects self.old holds fault self.new }
     {
@@ -43,8 +43,8 @@ impl FirstFault {
         }
     }
 
-    /// Returns the value of `read`. If `read` is a fault, stores it and returns `other`. `FirstFault::read_required`,
-    /// `FirstFault::read_optional` and others call it.
+    /// Returns the value of `read`. If `read` is a fault, stores it and returns `other`. `read_required`, `read_optional`,
+    /// `read_or_default` and readers of tables call it.
     pub fn value_or<T: Copy>(&mut self, read: Result<T, PlanFault>, other: T) -> T
         ensures { TakesRead self.old other read self.new result }
     {

@@ -28,7 +28,7 @@ use bridge_schema::{
 use std::alloc::Allocator;
 use toml::Table;
 
-/// Reads an entry of a stream gate's list: state, internal priority value and octet limit, and the interval in ns.
+/// Reads an entry of a stream gate's list: state, internal priority value, octet limit, and the length of its intervals in ns.
 #[derive(Clone, Copy)]
 struct GateEntryReader {
     /// Location of the list, which faults of the entry name.
@@ -113,8 +113,10 @@ fn read_gate_parts<A: Allocator + Copy>(
     )
 }
 
-/// Returns the schedule of a stream gate: its first list, and the new list from time `change` in ns if both exist. `None` without a first
-/// list. `read_gate_lists` calls it.
+/// Returns the schedule of a stream gate: its first list and, from time `change` in ns on, the new list. Without a change or a new list,
+/// the first list stays.
+///
+/// Returns `None` without a first list. `read_gate_lists` calls it.
 fn gate_schedule<A: Allocator + Copy>(
     old: Option<CyclicList<GateEntry, A>>,
     change: Option<u64>,
@@ -224,7 +226,7 @@ fn schedule_or_fixed<A: Allocator + Copy>(
 }
 
 /// Reads a stream gate and its number, which none of the gates before it may have. `change` is the time of the schedule change in ns.
-/// `read` calls it.
+/// `GateSection::read` calls it.
 fn read_gate<A: Allocator + Copy>(
     alloc: A,
     change: Option<u64>,

@@ -1,5 +1,5 @@
 #![tactic(auto)]
-//! Plan of a bridge: ports, VLANs, streams, gates, meters and filters. Also commands to the bridge.
+//! Plan of a bridge (ports, VLANs, streams, gates, meters and filters), and commands to the bridge.
 
 mod changes;
 mod command;

@@ -6,8 +6,9 @@ ghost use Rattle.bridge_config.specs.Sections as sections;
 use bridge_schema::NumberLookup;
 use std::alloc::AllocError;
 
-/// Whether an instance has number `number`. Numbers of later instances must differ, and keys may name only existing numbers. `has`,
-/// `read_gate` and `read_meter` call it.
+/// Whether an instance has number `number`. Numbers of later instances must differ, and keys may name only existing numbers.
+///
+/// `CommandTargets::has`, `InstanceNumbers::has`, `read_gate` and `read_meter` call it.
 pub(crate) fn has_number<X>(instances: &[(u32, X)], number: u64) -> bool
     ensures { result ≡ sections.has_number instances.now number }
 {
@@ -46,7 +47,9 @@ impl<'a, X> NumberLookup for InstanceNumbers<'a, X> {
 }
 
 /// Converts an optional number to 32 bits, which plans store; readers of keys return 64 bits. The number's range was tested when its key
-/// was read. `read_filter_by_lookup` and `read` call it.
+/// was read.
+///
+/// `read_filter_by_lookup` and `GateEntryReader::read` call it.
 pub(crate) fn optional_u32(number: Option<u64>) -> Option<u32>
     requires { ForSome number (λ n. n ≤ u32.MAX) }
     ensures { result ≡ number }
@@ -57,8 +60,8 @@ pub(crate) fn optional_u32(number: Option<u64>) -> Option<u32>
     }
 }
 
-/// Converts an optional number to 8 bits. The number's range was tested when its key was read. `read_filter_by_lookup`, `read` and
-/// `read_gate` call it.
+/// Converts an optional number to 8 bits. The number's range was tested when its key was read. `read_filter_by_lookup`,
+/// `GateEntryReader::read` and `read_gate` call it.
 pub(crate) fn optional_u8(number: Option<u64>) -> Option<u8>
     requires { ForSome number (λ n. n ≤ 255) }
     ensures { result ≡ number }

@@ -80,7 +80,7 @@ impl<A: Allocator + Copy> Plan<A> {
         &self.ports
     }
 
-    /// Returns the port with number `number`; `None` if the plan lacks it. Checks, bounds and pictures look ports up by it.
+    /// Returns the port with number `number`; `None` if the plan lacks it. Checks, bounds and pictures call it.
     pub fn port(&self, number: u8) -> Option<&PortPlan<A>>
         ensures port { option_map (λ p. p.now) result ≡ rules.find_port self.now.ports number }
         ensures rules { rules.IsPlan self.now }
@@ -147,8 +147,9 @@ impl<A: Allocator + Copy> Plan<A> {
         &self.filters
     }
 
-    /// Returns the stream filters with their numbers, by rising number. Results of runs and delay bounds list filters in this order. `new`
-    /// and `make_run_lists` of `bridge_core`, and `queue_bounds` of `net_latency` call it.
+    /// Returns the stream filters with their numbers, by rising number. Results of runs and delay bounds list filters in this order.
+    ///
+    /// `Bridge::new` and `make_run_lists` of `bridge_core`, and `queue_bounds` of `net_latency` call it.
     pub fn filters_in_order<B: Allocator + Copy>(
         &self,
         alloc: B,
@@ -182,7 +183,7 @@ impl<A: Allocator + Copy> Plan<A> {
     }
 }
 
-/// Returns the first port with number `number`; `None` if no port has it. `port` calls it.
+/// Returns the first port with number `number`; `None` if no port has it. `Plan::port` calls it.
 fn find_port<A: Allocator + Copy>(ports: &[PortPlan<A>], number: u8) -> Option<&PortPlan<A>>
     ensures { option_map (λ p. p.now) result ≡ rules.find_port ports.now number }
 {
@@ -210,8 +211,8 @@ fn collect_port_numbers<A: Allocator + Copy, B: Allocator + Copy>(
     Ok(numbers)
 }
 
-/// Returns the set of the ports' numbers: bit n - 1 stands for port n. VLANs and static entries may name only these ports. `read_plan`
-/// calls it.
+/// Returns the set of the ports' numbers: bit n - 1 is set if a port has number n. VLANs and static entries may name only these ports.
+/// `read_plan` calls it.
 fn port_set<A: Allocator + Copy>(ports: &[PortPlan<A>]) -> u16
     requires { rules.ArePorts ports.now }
     ensures { result ≡ rules.port_set ports.now }
@@ -268,8 +269,8 @@ fn read_policing<A: Allocator + Copy>(
     })
 }
 
-/// Reads a plan from the arrays of its sections, or returns the first fault. Earlier sections come first, because later sections name their
-/// instances.
+/// Reads a plan from the arrays of its sections, or returns the first fault. Sections with named instances precede the sections that name
+/// them. `plan_of` calls it.
 #[tactic(auto, unfolding(crate::specs::Document::read_plan))]
 fn read_plan<A: Allocator + Copy>(alloc: A, arrays: SectionArrays<'_>) -> Result<Plan<A>, PlanFault>
     requires { AreWithinLimits arrays }
@@ -295,8 +296,8 @@ fn read_plan<A: Allocator + Copy>(alloc: A, arrays: SectionArrays<'_>) -> Result
     })
 }
 
-/// Parses a text as a TOML document, with a plan's faults. The readers of plans and of commands share this function. `commands_of` and
-/// `plan_of` call it.
+/// Parses a text as a TOML document; a fault is the fault of a plan. The readers of plans and of commands share this function.
+/// `commands_of` and `plan_of` call it.
 #[tactic(auto, unfolding(crate::specs::Document::read_document))]
 pub(crate) fn read_document(heap: Global, text: &[u8]) -> Result<Table, PlanFault>
     ensures { MatchesReadingView table_view result (doc.read_document text.now) }

@@ -44,7 +44,7 @@ pub struct PortPlan<A: Allocator + Copy> {
     pub list: Option<Egress<A>>,
 }
 
-/// Reads an entry of a port's list: open classes as bits, and the interval in ns.
+/// Reads an entry of a port's list: open classes as bits, and the length of its intervals in ns.
 #[derive(Clone, Copy)]
 struct PortEntryReader {
     /// Location of the list, which faults of the entry name.
@@ -148,8 +148,10 @@ fn read_port_parts<A: Allocator + Copy>(
     )
 }
 
-/// Returns the gate control lists of a port: its first list, and the new list from time `change` in ns if both exist. `None` without a
-/// first list. `read_port_lists` calls it.
+/// Returns the gate control lists of a port: its first list and, from time `change` in ns on, the new list. Without a change or a new list,
+/// the first list stays.
+///
+/// Returns `None` without a first list. `read_port_lists` calls it.
 fn port_lists<A: Allocator + Copy>(
     old: Option<CyclicList<u8, A>>,
     change: Option<u64>,
@@ -263,7 +265,8 @@ fn read_port_by_lookup<A: Allocator + Copy, P: NumberLookup + Copy>(
     })
 }
 
-/// Reads a port, whose number none of the ports before it may have. `change` is the time of the schedule change in ns. `read` calls it.
+/// Reads a port, whose number none of the ports before it may have. `change` is the time of the schedule change in ns. `PortSection::read`
+/// calls it.
 fn read_port<A: Allocator + Copy>(
     alloc: A,
     change: Option<u64>,

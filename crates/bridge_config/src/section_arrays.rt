@@ -16,9 +16,9 @@ use toml::{Table, Value};
 /// Tables of each section of a plan, within the section's limit. An absent section has no tables.
 #[derive(Clone, Copy)]
 pub(crate) struct SectionArrays<'a> {
-    /// Schedule change, at most one.
+    /// Tables of the schedule change, at most one.
     pub changes: &'a [Value],
-    /// Ports, at least one and at most 16.
+    /// Tables of the ports, 1 to 16.
     pub ports: &'a [Value],
     /// Tables of the VLANs.
     pub vlans: &'a [Value],

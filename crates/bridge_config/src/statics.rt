@@ -16,7 +16,8 @@ use bridge_schema::{
 use std::alloc::Allocator;
 use toml::Table;
 
-/// Whether an entry has VLAN `vid` and address `address`. The last octet is compared first because it differs most often.
+/// Whether a static entry has VLAN `vid` and address `address`. The last two octets are compared first because they differ most often.
+///
 /// `has_static_among` and `has_static_in_four` call it.
 #[inline(always)]
 fn has_vlan_and_address(entry: &StaticEntry, vid: u64, address: &[u8; 6]) -> bool
@@ -73,7 +74,8 @@ fn has_static_keys(table: &Table) -> bool
     has_allowed_keys(table, &STATIC_KEYS, false)
 }
 
-/// Reads a static entry. No entry before it may have its VLAN and address. `all` is the set of the plan's ports. `read` calls it.
+/// Reads a static entry. No entry before it may have its VLAN and address. `all` is the set of the plan's ports. `StaticSection::read`
+/// calls it.
 fn read_static(
     all: u16,
     vlans: &[Vlan],
@@ -115,7 +117,7 @@ fn read_static(
 /// Reads the section of static entries. `all` is the set of the plan's ports.
 #[derive(Clone, Copy)]
 pub(crate) struct StaticSection<'a> {
-    /// Set of the plan's ports: bit n - 1 stands for port n.
+    /// Set of the plan's ports: bit n - 1 is set if the plan has port n.
     pub all: u16,
     /// VLANs that were read before.
     pub vlans: &'a [Vlan],

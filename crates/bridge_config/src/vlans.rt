@@ -45,7 +45,9 @@ fn has_vlan_keys(table: &Table) -> bool
 }
 
 /// Reads a VLAN. None of `vlans`, the earlier VLANs, may have its identifier. `all` is the set of the plan's ports, which members must
-/// belong to. `read` calls it.
+/// belong to.
+///
+/// `VlanSection::read` calls it.
 fn read_vlan(all: u16, vlans: &[Vlan], index: u32, table: &Table) -> Result<Vlan, PlanFault>
     ensures reads { MatchesReading result (sections.read_vlan all vlans.now index (table_view table.now)) }
     ensures own { IfOk result (λ v. rules.has_vlan vlans.now v.vid ≡ false) }
@@ -73,7 +75,7 @@ fn read_vlan(all: u16, vlans: &[Vlan], index: u32, table: &Table) -> Result<Vlan
 /// Reads the section of VLANs. `all` is the set of the plan's ports.
 #[derive(Clone, Copy)]
 pub(crate) struct VlanSection {
-    /// Set of the plan's ports: bit n - 1 stands for port n.
+    /// Set of the plan's ports: bit n - 1 is set if the plan has port n.
     pub all: u16,
 }
 

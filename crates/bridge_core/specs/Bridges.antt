@@ -31,7 +31,7 @@ bridge_earliest b = b.relay.earliest
 abbrev pub bridge_queued : {G A : Type 0} → BridgeState G A → ℕ
 bridge_queued b = count_waiting_copies b.relay
 
--- The time in ns of the next start of port `q`, or `None`.
+-- The time in ns of the next start of port `q`; `None` if no start is due.
 abbrev pub next_start : {G A : Type 0} → (G → ℕ → Option ℕ) → BridgeState G A → ℕ → Option ℕ
 next_start held b q = held b.relay.ports.agenda q
 
@@ -39,7 +39,8 @@ next_start held b q = held b.relay.ports.agenda q
 abbrev pub BridgeStandsFor : {G A : Type 0} → Plan A → BridgeState G A → List Event → (ℕ → List CapturedFrame) → Type 0
 BridgeStandsFor p b es left = RelayStandsFor p b.relay es left
 
--- Holds if a bridge has its filters in order, and empty lists with capacity for all records and counts.
+-- Holds if a bridge has its filters in order, and empty lists with capacity for all records and counts. The earliest
+-- time of a command isn't before the earliest time of a frame.
 pub record IsReady {G A : Type 0} (b : RelayState G A) (command : ℕ) (order : List (ℕ × FilterPlan)) (views : Vec (ℕ × View A) A) (counts : Vec (ℕ × PortCount) A) : Type 0 where
   pub rises : IsOrdered (λ x y. x.0 < y.0) order
   pub same : (n : ℕ) → lookup (nat_eq n) order ≡ lookup (nat_eq n) b.plan.filters

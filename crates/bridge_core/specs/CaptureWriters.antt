@@ -14,7 +14,7 @@ use Rattle.bridge_semantics.specs.NextStarts.{ReachesStart, SendsHead}
 use Rattle.bridge_relay.specs.RelayState.{RelayState, RelayStandsFor}
 use Rattle.bridge_core.specs.declared.capture_writer.CaptureWriter.{CaptureWriter}
 
--- Holds if the sink of port `port` ran out of memory.
+-- Holds if the sink of port `port` ran out of memory. The lists `ports` and `sinks` are in the same order.
 abbrev pub IsOutOfMemory : {W : Type 0} → (W → Bool) → List ℕ → ℕ → List W → Type 0
 IsOutOfMemory ran_out ports port sinks = HasFailed ran_out ports port sinks
 
@@ -36,8 +36,7 @@ pub record FitsRecord (c : CapturedFrame) : Type 0 where
 abbrev pub HasWritten : Option (List ℕ) → Option (List ℕ) → List CapturedFrame → Type 0
 HasWritten old new frames = Appends old new (written_text frames) × All FitsRecord frames
 
--- Holds if the sink of each port `q` contains its old octets, then the capture of the frames `left q`. Sinks with
--- unknown old contents are exempt.
+-- Holds if the sink of each port `q` contains its old octets, then the capture of the frames `left q`, as `HasWritten` states.
 abbrev pub AreWritten : {W : Type 0} → (W → Option (List ℕ)) → List ℕ → List W → List W → (ℕ → List CapturedFrame) → Type 0
 AreWritten {W} contents ports olds news left = (i q : ℕ) (old new : W) → slice_get ports i ≡ Some q → slice_get olds i ≡ Some old → slice_get news i ≡ Some new → HasWritten (contents old) (contents new) (left q)
 
@@ -63,14 +62,14 @@ abbrev pub StopsAtHeaders : {W : Type 0} → (W → Option (List ℕ)) → (W �
 StopsAtHeaders contents has_failed ports olds news (run.Write port) = StopsAtHeader contents has_failed ports port olds news
 StopsAtHeaders contents has_failed ports olds news fault = ⊥
 
--- Holds if the frame's port received one frame more, or its sink failed.
+-- Holds if all departures `left` are written, or writing failed at port `port`, whose sink has a prefix of its capture.
 abbrev pub WritesFrame : {W : Type 0} → (W → Option (List ℕ)) → ℕ → List ℕ → List W → List W → (ℕ → List CapturedFrame) → Result (Unit {0}) RunFault → Type 0
 WritesFrame contents port ports olds news left (Ok u) = AreWritten contents ports olds news left
 WritesFrame contents port ports olds news left (Err (run.Write q)) = (q ≡ port) × AreWrittenExceptOne contents port ports olds news left
 WritesFrame contents port ports olds news left (Err fault) = ⊥
 
--- Holds if port `port` makes a start at time `moment` in a run of the events `es`. All earlier starts, by time and port, are made. With this start, the
--- departures are `left`.
+-- Holds if port `port` makes a start at time `moment` in a run of the events `es`. All earlier starts, by time and
+-- port, are made. With this start, the departures are `left`.
 pub record MakesStart {A : Type 0} (p : Plan A) (es : List Event) (moment port : ℕ) (left : ℕ → List CapturedFrame) : Type 0 where
   pub before : ℕ → List CapturedFrame
   pub class : ℕ

@@ -1,4 +1,4 @@
--- Runs that handle frames and commands one by one.
+-- State of a run between two inputs, and the reasons why a run stops.
 use Rattle.std.specs.Prelude.{◌≡◌, ◌≢◌, ℕ, zero, suc, Bool, ◌+◌, ◌<◌, ◌≤◌, ◌⊎◌, Option, Some, None, IfSome, OnOk, option_and_then, option_map, List, [], ◌∷◌, ◌++◌, length, slice_get, slice_set, Result, Ok, Err}
 use Rattle.bridge_limits.specs.Members.{IsOrdered}
 use Rattle.bridge_limits.specs.declared.TheConstants.{MAX_ARRIVALS}
@@ -27,7 +27,8 @@ abbrev pub FollowsInputs : Input → List Input → Type 0
 FollowsInputs y [] = Unit {0}
 FollowsInputs y (x ∷ xs) = FollowsInput y x
 
--- Holds if `inputs` merges the commands so far and the frames that were read from each port's capture. The next command isn't earlier.
+-- Holds if `inputs` merges the commands so far and the frames that were read from each port's capture. The next command, if any, doesn't
+-- precede the newest input.
 pub record HasTakenInputs {A : Type 0} (p : Plan A) (texts : ℕ → List ℕ) (commanded : List Input) (next : Option Input) (frames : ℕ → List CapturedFrame) (inputs : List Input) : Type 0 where
   pub gave : (q : ℕ) (out : PortPlan A) → find_port p.ports q ≡ Some out → HasReadFrames (texts q) (frames q)
   pub others : (q : ℕ) → find_port p.ports q ≡ None → frames q ≡ []
@@ -64,8 +65,8 @@ pub record StopsReading {A W : Type 0} (p : Plan A) (texts : ℕ → List ℕ) (
   pub reaches : ReachesTime p (input_events inputs) (newest_time inputs) left
   pub written : AreWritten contents ports olds news left
 
--- Holds if the run stopped because the sink of port `port` failed at a start. This start isn't before the newest input, and it precedes the next inputs. All
--- other departures are written.
+-- Holds if the run stopped because the sink of port `port` failed at a start. This start isn't before the newest input,
+-- and it precedes the next inputs. All other departures are written.
 pub record StopsWriting {A W : Type 0} (p : Plan A) (texts : ℕ → List ℕ) (commanded : List Input) (next : Option Input) (contents : W → Option (List ℕ)) (ports : List ℕ) (olds news : List W) (port : ℕ) : Type 0 where
   pub frames : ℕ → List CapturedFrame
   pub inputs : List Input
@@ -96,13 +97,15 @@ pub record StopsForMemory {A W : Type 0} (p : Plan A) (texts : ℕ → List ℕ)
   pub reaches : ReachesTime p (input_events inputs) moment left
   pub written : AreWritten contents ports olds news left
 
--- Holds if a run under way stopped with this fault: a faulty capture, a failed write or out of memory. Each source has the rest `rests` of its capture.
+-- Holds if a run under way stopped with this fault: a faulty capture, a failed write or out of memory. Each source has
+-- the rest `rests` of its capture.
 abbrev pub StopsUnderWay : {A W : Type 0} → Plan A → (ℕ → List ℕ) → (ℕ → Option (List ℕ)) → List Input → Option Input → (W → Option (List ℕ)) → List ℕ → List W → List W → RunFault → Type 0
 StopsUnderWay p texts rests commanded next contents ports olds news (run.Capture port fault) = StopsReading p texts rests commanded next contents ports olds news port fault
 StopsUnderWay p texts rests commanded next contents ports olds news (run.Write port) = StopsWriting p texts commanded next contents ports olds news port
 StopsUnderWay p texts rests commanded next contents ports olds news run.NoMemory = StopsForMemory p texts rests commanded next contents ports olds news
 
--- Holds if the relay can handle the frames of these readers: their ports exist, their frames aren't too early, and the limit of arrivals suffices.
+-- Holds if the relay can handle the frames of these readers: their ports exist, their frames aren't too early, and the
+-- limit of arrivals suffices.
 pub record CanTakeFrames {G A : Type 0} (b : RelayState G A) (lanes : List (CaptureReader A)) : Type 0 where
   pub each : (i : ℕ) (lane : CaptureReader A) → slice_get lanes i ≡ Some lane → IsReader lane
   pub from : (i : ℕ) (lane : CaptureReader A) → slice_get lanes i ≡ Some lane → 1 ≤ lane.number
@@ -111,7 +114,7 @@ pub record CanTakeFrames {G A : Type 0} (b : RelayState G A) (lanes : List (Capt
   pub few : b.arrived + total_frames_left lanes ≤ MAX_ARRIVALS
   pub rises : IsOrdered (λ a b. a < b) (port_numbers lanes)
 
--- The time in ns of the reader's next frame, or `None`.
+-- The time in ns of the reader's next frame; `None` if the reader has no frame ahead.
 abbrev pub head_time : {A : Type 0} → CaptureReader A → Option ℕ
 head_time lane = option_map (λ p. p.time) lane.ahead
 
@@ -147,7 +150,7 @@ PrecedesCommand {A} lanes place next = (l : CaptureReader A) (c : Packet A) → 
 abbrev pub IsHeadEarlier : {A : Type 0} → Option ℕ → List (CaptureReader A) → ℕ → Type 0
 IsHeadEarlier {A} until lanes place = (l : CaptureReader A) (c : Packet A) → slice_get lanes place ≡ Some l → l.ahead ≡ Some c → IfSome until (λ t. c.time < t)
 
--- Holds if a frame was taken from the reader at index `place`.
+-- Holds if `given`, a port and a frame, was taken from the reader at index `place`.
 pub record HasTakenFrame {A : Type 0} (old new : List (CaptureReader A)) (place : ℕ) (given : ℕ × Packet A) : Type 0 where
   pub lane : CaptureReader A
   pub there : slice_get old place ≡ Some lane
@@ -155,7 +158,8 @@ pub record HasTakenFrame {A : Type 0} (old new : List (CaptureReader A)) (place 
   pub ahead : lane.ahead ≡ Some given.1
   pub now : new ≡ slice_set old place (record lane { ahead = None })
 
--- Holds if the reader at index `place` has read its next frame after its last one was taken. No other reader or source changed.
+-- Holds if `result` is the result of reading ahead by the reader at index `place`, after its last frame was taken. No other reader or
+-- source changed.
 pub record HasReadAhead {R A : Type 0} (remaining : R → Option (List ℕ)) (old new : List (CaptureReader A)) (before after : List R) (place : ℕ) (result : Result (Unit {0}) CaptureFault) : Type 0 where
   pub was : CaptureReader A
   pub source : R

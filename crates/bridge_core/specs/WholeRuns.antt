@@ -54,8 +54,8 @@ pub record IsReadyToRun {G A : Type 0} (p : Plan A) (b : RelayState G A) (l : Ru
   pub lanes : AreReaders all
   pub room : total_frames_left all ≤ MAX_ARRIVALS
 
--- Holds if the captures `texts` are valid, `o` is the result of all frames and commands, and the sinks have all departures. `frames` are the captured frames,
--- `inputs` all inputs in order.
+-- Holds if the captures `texts` are valid, `o` is the result of all frames and commands, and the sinks have all
+-- departures. `frames` are the captured frames, `inputs` all inputs in order.
 pub record IsWholeRun {A W : Type 0} (p : Plan A) (ports : List ℕ) (commands : List Command) (texts : ℕ → List ℕ) (contents : W → Option (List ℕ)) (olds news : List W) (o : Outcome A) : Type 0 where
   pub frames : ℕ → List CapturedFrame
   pub inputs : List Input
@@ -81,7 +81,7 @@ pub record LacksMemory {A W : Type 0} (p : Plan A) (ports : List ℕ) (texts : �
   pub looks : FailsToBegin texts rests ports run.NoMemory ⊎ HaveSoundStarts p texts
   pub untouched : news ≡ olds
 
--- Holds if all captures have valid starts, and the header of a port's output wasn't written.
+-- Holds if all captures have valid starts, and the sink of port `port` failed at the header of its output.
 pub record StopsAtFirstHeader {A W : Type 0} (p : Plan A) (ports : List ℕ) (texts : ℕ → List ℕ) (contents : W → Option (List ℕ)) (has_failed : W → Bool) (olds news : List W) (port : ℕ) : Type 0 where
   pub begins : HaveSoundStarts p texts
   pub headers : StopsAtHeader contents has_failed ports port olds news
@@ -106,7 +106,7 @@ IsolatesFilters {A} p ports commands texts contents olds news o =
     (ran : IsWholeRun p ports commands texts contents olds news o) (n : ℕ) (f : FilterPlan) (v : View A)
     → HasProtectedView p n f o v → IsSoloView p n f (own_events p n f (input_events ran.inputs)) v
 
--- Holds if each port's output has at most as many records as frames arrived.
+-- Holds if each port's output has at most as many records as frames arrived at the bridge.
 abbrev pub WritesFew : {A W : Type 0} → Plan A → List ℕ → List Command → (ℕ → List ℕ) → (W → Option (List ℕ)) → List W → List W → Outcome A → Type 0
 WritesFew {A} p ports commands texts contents olds news o =
     (ran : IsWholeRun p ports commands texts contents olds news o) (q : ℕ) (out : PortPlan A)
@@ -138,7 +138,9 @@ abbrev pub HaveSameGroupInputs : {A : Type 0} → Plan A → ℕ → (ℕ → Li
 HaveSameGroupInputs p group input_streams others = (q : ℕ) → group_inputs p group (input_streams q) ≡ group_inputs p group (others q)
 
 -- Holds if each grouped filter's record in `o` results only from its group's own frames and commands, as if queues had their ports to
--- themselves. Its verdicts, counters, flags and buckets result from its own frames and commands only.
+-- themselves.
+--
+-- The filter's verdicts, counters, flags and buckets result from its own frames and commands only.
 abbrev pub IsolatesMembers : {A W : Type 0} → Plan A → List ℕ → List Command → (ℕ → List ℕ) → (W → Option (List ℕ)) → List W → List W → Outcome A → Type 0
 IsolatesMembers {A} p ports commands texts contents olds news o =
     (ran : IsWholeRun p ports commands texts contents olds news o) (group n : ℕ) (f : FilterPlan) (v : View A)
@@ -169,8 +171,8 @@ MembersChangeNoVerdict {A} {W} p ports commands texts contents olds news o =
     → HaveSameOwnInputs p n f (input_streams (commands_of commands) ran.frames) (input_streams (commands_of other_commands) also.frames)
     → HaveSamePoliceRecords u v
 
--- Holds if the run isolates each group: its own frames and commands decide its filters' records, and each filter's own
--- ones decide its verdicts.
+-- Holds if the run isolates each group: its own frames and commands decide its filters' records. Each filter's own frames and commands
+-- decide its verdicts.
 pub record IsolatesGroups {A W : Type 0} (p : Plan A) (ports : List ℕ) (commands : List Command) (texts : ℕ → List ℕ) (contents : W → Option (List ℕ)) (olds news : List W) (o : Outcome A) : Type 0 where
   pub members : IsolatesMembers p ports commands texts contents olds news o
   pub outsiders : OutsidersChangeNothing p ports commands texts contents olds news o

@@ -36,7 +36,7 @@ use std::marker::Model;
 /// of events, and the frames that have left.
 #[derive(Drop)]
 pub struct Bridge<'a, G: Agenda + Drop, A: Allocator + Copy> {
-    /// Ports, filters and records.
+    /// Relay of the bridge: its ports, filters and records.
     relay: Relay<'a, G, A>,
     /// Pool without capacity: it drops the buffers of frames that have left.
     spares: BufferPool<A>,
@@ -61,7 +61,7 @@ impl<'a, G: Agenda + Drop, A: Allocator + Copy> Model for Bridge<'a, G, A> {
 }
 
 impl<'a, G: Agenda + Drop, A: Allocator + Copy> Bridge<'a, G, A> {
-    /// Makes the bridge of an accepted plan, before any event. Callers that hand in single events begin with it.
+    /// Makes the bridge of an accepted plan, before any event. Callers that hand in single events begin with this call.
     pub fn new(alloc: A, accepted: &'a Accepted<A>) -> Result<Bridge<'a, G, A>, NoMemory>
         ensures stands { IfOk result (λ b. BridgeStandsFor accepted.now b [] (λ _. [])) }
         ensures start { IfOk result (λ b. (bridge_plan b ≡ accepted.now) × (bridge_arrivals b ≡ 0)
@@ -91,10 +91,10 @@ impl<'a, G: Agenda + Drop, A: Allocator + Copy> Bridge<'a, G, A> {
         })
     }
 
-    /// Handles a frame that arrives on port `port`: after the last start, not before the last event, not after the next start. Without
-    /// memory, returns it and leaves the bridge unchanged.
+    /// Handles a frame that arrives on port `port`. The frame must arrive after the last start, not before the last event, and not after
+    /// the next start.
     ///
-    /// Callers hand in each frame by it.
+    /// If memory runs out, returns the frame, and leaves the bridge unchanged. Callers hand in each frame by this method.
     pub fn arrive(&mut self, port: u8, packet: Packet<A>) -> Result<(), (Packet<A>, NoMemory)>
         requires known { (out : PortPlan A) × (find_port (bridge_plan self.old).ports port ≡ Some out) }
         requires time { (bridge_earliest self.old ≤ packet.time) × (packet.time < END_OF_TIME) }
@@ -123,7 +123,7 @@ impl<'a, G: Agenda + Drop, A: Allocator + Copy> Bridge<'a, G, A> {
     }
 
     /// Carries out a command, which must be after the last frame and the last start, and not before the last command. Allocates no memory.
-    /// Callers hand in each command by it.
+    /// Callers hand in each command by this method.
     pub fn command(&mut self, command: &Command)
         requires time { self.old.command ≤ command.now.at }
         requires instance { IsTrue (has_instance (bridge_plan self.old) command.now.clear command.now.number) }
@@ -191,8 +191,8 @@ impl<'a, G: Agenda + Drop, A: Allocator + Copy> Bridge<'a, G, A> {
         self.relay.arrived()
     }
 
-    /// Returns the number of starts of port `port` so far: the number of frames that it has sent. Callers compare it with the frames that
-    /// they received.
+    /// Returns the number of starts of port `port` so far: the number of frames that it has sent. Callers compare it with the number of
+    /// frames that `advance` returned.
     pub fn started(&self, port: u8) -> u64
         requires { (out : PortPlan A) × (find_port (bridge_plan self.now).ports port ≡ Some out) }
         ensures { (p : config.Plan A) (es : List Event) (left : ℕ → List CapturedFrame)
@@ -210,16 +210,16 @@ impl<'a, G: Agenda + Drop, A: Allocator + Copy> Bridge<'a, G, A> {
         self.relay.earliest()
     }
 
-    /// Returns the earliest time in ns of the next command: 1 ns after the last frame and start, and not before the last command. Callers
-    /// of `command` need it.
+    /// Returns the earliest time in ns of the next command: at least 1 ns after the last frame and the last start, and not before the last
+    /// command. Callers of `command` need it.
     pub fn earliest_command(&self) -> u64
         ensures { result ≡ self.now.command }
     {
         self.command
     }
 
-    /// Does nothing; its contract states that the events form a run up to any time before the next start (`reaches`). Each port's due start
-    /// is its schedule's next start (`next`).
+    /// Does nothing; its contract states that the events form a run up to any time that isn't after the next start (`reaches`). Each port's
+    /// due start is its schedule's next start (`next`).
     pub fn assert_reached(&self)
         ensures reaches { (p : config.Plan A) (es : List Event) (left : ℕ → List CapturedFrame) (h : ℕ)
             → BridgeStandsFor p self.now es left → bridge_earliest self.now ≤ h

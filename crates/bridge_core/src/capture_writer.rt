@@ -24,8 +24,10 @@ pub struct CaptureWriter {
     pub writer: Writer,
 }
 
-/// Writes each capture's header to the sink with the port's index, and returns a writer for each port. `lines` has the capacity. A failed
-/// write is `RunFault::Write`. `run_prepared` calls it.
+/// Writes each capture's header to the sink with the port's index. Returns a writer for each port, in `lines`, which must be empty and have
+/// the capacity.
+///
+/// A failed write is `RunFault::Write`. `run_prepared` calls it.
 pub fn begin_writers<W: ByteSink, A: Allocator + Copy>(
     ports: &[u8],
     lines: Vec<CaptureWriter, A>,

@@ -239,8 +239,8 @@ fn process_earlier_frames<R: ByteSource, W: ByteSink, G: Agenda + Drop, A: Alloc
     Ok(())
 }
 
-/// Handles all frames before the command's time, writes due frames to `sinks`, and clears the command's flag. Frames at the command's time
-/// follow. `run` calls it.
+/// Handles all frames before the command's time, writes due frames to `sinks`, and clears the command's flag. Frames that arrive at the
+/// command's time are handled later. `run` calls it.
 fn process_command<R: ByteSource, W: ByteSink, G: Agenda + Drop, A: Allocator + Copy>(
     command: Command,
     relay: &mut Relay<'_, G, A>,

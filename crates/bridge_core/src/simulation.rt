@@ -143,8 +143,9 @@ fn run_prepared<R: ByteSource, W: ByteSink, G: Agenda + Drop, A: Allocator + Cop
     }
 }
 
-/// Runs captures and commands through the bridge of an accepted plan, with agenda type `G`. `sources` and `sinks` are in port order. Writes
-/// a capture for each port; times are ends of transmission.
+/// Runs captures and commands through the bridge of an accepted plan, with agenda type `G`. `sources` and `sinks` are in port order.
+///
+/// Writes a capture for each port, in which the time of a frame is its end of transmission.
 ///
 /// A protected filter's record depends on its own frames and commands only, a grouped filter's record on those of its group only.
 /// `simulate` calls it.
@@ -208,8 +209,9 @@ pub fn simulate_with_agenda<R: ByteSource, W: ByteSink, G: Agenda + Drop, A: All
     run_prepared(commands, relay, lists, lanes, spares, sources, sinks)
 }
 
-/// Runs captures and commands through the bridge of an accepted plan: `simulate_with_agenda` with an ordered tree as agenda. The commands
-/// `run` and `net` call it.
+/// Runs captures and commands through the bridge of an accepted plan: `simulate_with_agenda` with an ordered tree as agenda.
+///
+/// `run_captures` of `app_commands` and `run_bridge` of `net_run` call it.
 pub fn simulate<R: ByteSource, W: ByteSink, A: Allocator + Copy>(
     alloc: A,
     accepted: &Accepted<A>,

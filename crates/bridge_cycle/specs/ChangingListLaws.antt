@@ -32,11 +32,11 @@ early t m h = grind (arith, nat_tests)
 late : (t m : ℕ) → m ≤ t → nat_lt t m ≡ false
 late t m h = grind (arith, nat_tests)
 
--- Before the schedule change, the interval comes from the old list.
+-- The interval of a time before the schedule change comes from the old list.
 pub turn_is_old : {S : Type 0} (j : Joined S) (t : ℕ) → t < j.at → turn_by_time j t ≡ clip_end j.at (cyclic.turn_by_time j.old t)
 turn_is_old j t h = rw (early t j.at h) refl
 
--- From the schedule change on, the interval comes from the new list.
+-- The interval of a time from the schedule change on comes from the new list.
 pub turn_is_new : {S : Type 0} (j : Joined S) (t : ℕ) → j.at ≤ t → turn_by_time j t ≡ clip_start j.at (cyclic.turn_by_time j.new t)
 turn_is_new j t h = rw (late t j.at h) refl
 
@@ -80,14 +80,14 @@ raised_turned {S} j t x lawful l h =
           turn_is_new j u past ∙ ap (clip_start j.at) (s.same u begun q);
     })
 
--- Each interval of a joined list has the properties of `IsTimelineTurn`.
+-- Each interval of two lists with a schedule change has the properties of `IsTimelineTurn`.
 pub changing_turn_is_exact : {S : Type 0} (j : Joined S) (t : ℕ) (x : Turn S) → IsLawful j → turn_by_time j t ≡ Some x → IsTimelineTurn (turn_by_time j) (cycle_length j) t x
 changing_turn_is_exact j t x lawful h = elim (cases_lt t j.at) [
   | inl l ↦ cut_turned j t x lawful l h
   | inr r ↦ raised_turned j t x lawful r h
 ]
 
--- A joined list has an interval at each time.
+-- Two lists with a schedule change have an interval at each time.
 pub changing_turn_exists : {S : Type 0} (j : Joined S) (t : ℕ) → IsLawful j → (x : Turn S) × (turn_by_time j t ≡ Some x)
 changing_turn_exists {S} j t lawful = elim (cases_lt t j.at) [
   | inl l ↦

@@ -1,4 +1,4 @@
--- Ends of intervals, by which a list finds entries fast. No public contract uses them.
+-- Ends of intervals, by which a list finds entries fast. No public contract uses these definitions.
 use Rattle.std.specs.Prelude.{◌≡◌, ℕ, ◌<◌, ◌≤◌, ◌+◌, ◌-◌, List, length, take, slice_index}
 use Rattle.bridge_cycle.specs.Cyclic.{interval_sum}
 

@@ -26,8 +26,8 @@ abbrev pub IsShorterThanCycle : Run → ℕ → Type 0
 IsShorterThanCycle (For r) cycle = r < cycle
 IsShorterThanCycle run cycle = Unit {0}
 
--- Holds if `longest` is the length in ns of the longest transmission that fits below time `n`. A transmission of this
--- length fits at some time.
+-- Holds if `longest` is the length in ns of the longest transmission that fits and ends by time `n`. A transmission of
+-- this length fits at some time.
 pub record IsLongestFit (opens : ℕ → Bool) (n longest : ℕ) : Type 0 where
   pub fits : (t : ℕ) × Fits opens longest t
   pub most : (occ t : ℕ) → t + occ ≤ n → Fits opens occ t → occ ≤ longest

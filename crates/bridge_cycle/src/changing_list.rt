@@ -50,7 +50,7 @@ impl<S: Copy, A: Allocator + Copy> Joined<S, A> {
         }
     }
 
-    /// Returns equal lists in new memory, or `NoMemory`. `Egress::copy` and copies of schedules call it.
+    /// Returns equal lists in new memory, or `NoMemory`. `Egress::copy` and `Schedule::copy` of `bridge_gate` call it.
     pub fn copy(&self, alloc: A) -> Result<Self, NoMemory>
         ensures equal { IfOk result (λ j. j ≡ self.now) }
     {

@@ -16,10 +16,10 @@ pub enum ListFault {
     /// The list has no entry.
     #[error("a list without an entry")]
     Empty,
-    /// An interval is 0 ns.
+    /// An entry has an interval of 0 ns.
     #[error("an interval of 0 ns")]
     ZeroInterval,
-    /// The sum of the intervals exceeds the cycle time.
+    /// The intervals of one cycle are together longer than the cycle time.
     #[error("intervals longer than the cycle")]
     OverCycle,
     /// The cycle time isn't 1 to 1,000,000,000 ns.
@@ -35,7 +35,9 @@ pub enum ListFault {
 
 impl ListFault {
     /// Returns the number of the fault: 1 for `Empty`, 2 for `ZeroInterval`, 3 for `OverCycle`, 4 for `CycleOutOfRange`, 5 for
-    /// `TooManyEntries`, 6 for `NoMemory`. Contracts compare faults by it.
+    /// `TooManyEntries`, 6 for `NoMemory`.
+    ///
+    /// Contracts compare faults by this number.
     pub fn number(self) -> u8
         ensures { result ≡ cyclic.fault_code self }
     {
@@ -64,22 +66,22 @@ pub const MAX_ENTRIES: usize = 256;
 /// Longest cycle time of a list, in ns.
 pub const LONGEST_CYCLE: u64 = 1_000_000_000;
 
-/// List of states that repeats in cycles, also before its base time. Each state lasts for its interval in ns, the last one until
-/// the cycle ends.
+/// List of states that repeats in cycles, also before its base time. Each state lasts for its interval in ns, the last one until the cycle
+/// ends.
 ///
-/// Each entry has one interval per cycle, even if neighbours are equal. Gate control lists (IEEE 802.1Q-2018, 8.6.8.4) and lists of
-/// stream gates (8.6.5.1.2) have this type.
+/// Each entry has one interval per cycle, even if neighbouring entries have equal states. Gate control lists (IEEE 802.1Q-2018, 8.6.8.4)
+/// and lists of stream gates (8.6.5.1.2) have this type.
 #[derive(Drop)]
 pub struct CyclicList<S, A: Allocator + Copy> {
     /// Base time in ns.
     base: u64,
     /// Cycle time in ns.
     cycle: u64,
-    /// Offset of time 0 in its cycle, in ns: 1 to the cycle time.
+    /// Number of ns, 1 to the cycle time. A time plus this number, modulo the cycle time, is the time's offset in its cycle.
     shift: u64,
-    /// Mean number of entries per ns, times 2^32. A search multiplies an offset by it to guess the entry in force.
+    /// Mean number of entries per ns, times 2^32. A search multiplies this number by an offset to guess the index of the entry in force.
     density: u64,
-    /// States with their intervals in ns.
+    /// States with the lengths of their intervals in ns.
     entries: Vec<(S, u64), A>,
     /// Offset in ns, from the start of a cycle, at which each interval ends.
     ends: Vec<u64, A>,
@@ -124,7 +126,7 @@ impl<S: Copy, A: Allocator + Copy> CyclicList<S, A> {
         })
     }
 
-    /// Returns an equal list in new memory, or `NoMemory`. `Joined::copy` and copies of schedules call it.
+    /// Returns an equal list in new memory, or `NoMemory`. `Joined::copy`, `Egress::copy` and `Schedule::copy` of `bridge_gate` call it.
     pub fn copy(&self, alloc: A) -> Result<Self, NoMemory>
         ensures equal { IfOk result (λ l. l ≡ self.now) }
     {
@@ -197,8 +199,8 @@ fn is_within_cycle<S: Copy>(entries: &[(S, u64)], cycle: u64) -> bool
     true
 }
 
-/// Returns the offset in ns, from the start of a cycle, at which each interval ends. A search for an entry compares these ends. `new` calls
-/// it.
+/// Returns the offset in ns, from the start of a cycle, at which each interval ends. A search for an entry compares these ends.
+/// `CyclicList::new` calls it.
 fn interval_ends<S: Copy, A: Allocator + Copy>(
     alloc: A,
     entries: &[(S, u64)],
@@ -215,8 +217,9 @@ fn interval_ends<S: Copy, A: Allocator + Copy>(
     Ok(ends)
 }
 
-/// Returns the mean number of entries per ns, times 2^32, from the ends of the intervals. `CyclicList::new` stores it. A search guesses an
-/// index by it; binary search corrects a bad guess.
+/// Returns the mean number of entries per ns, times 2^32, from the ends of the intervals. `CyclicList::new` stores it.
+///
+/// A search guesses an index from this number; binary search corrects a bad guess.
 fn entry_density(ends: &[u64]) -> u64 {
     let total = match ends.last() {
         Some(end) => (*end).max(1),
@@ -225,8 +228,8 @@ fn entry_density(ends: &[u64]) -> u64 {
     ((ends.len() as u64) << 32) / total
 }
 
-/// Whether the entry at index `place` is in force at offset `phase`, in ns from the start of a cycle. `index_near_guess` tests up to three
-/// entries by it.
+/// Whether the entry at index `place` is in force at offset `phase`, in ns from the start of a cycle. `index_near_guess` calls it for up to
+/// three entries.
 #[inline(always)]
 fn is_in_entry(ends: &[u64], phase: u64, place: usize) -> bool
     ensures { result ≡ true → running.IsEntryIndex ends.now phase place }
@@ -236,8 +239,10 @@ fn is_in_entry(ends: &[u64], phase: u64, place: usize) -> bool
         && (place + 1 == ends.len() || phase < ends[place])
 }
 
-/// Returns the index of the entry in force at offset `phase`, if it is `guess` or next to `guess`; otherwise `None`. With intervals of
-/// similar length the guess succeeds. `find_index` calls it.
+/// Returns the index of the entry in force at offset `phase`, if it is `guess` or next to `guess`; otherwise `None`. If all intervals have
+/// similar lengths, the guess usually succeeds.
+///
+/// `find_index` calls it.
 #[inline(always)]
 fn index_near_guess(ends: &[u64], phase: u64, guess: usize) -> Option<usize>
     ensures { IfSome result (λ place. running.IsEntryIndex ends.now phase place) }

@@ -7,7 +7,7 @@ ghost use Rattle.bridge_cycle.specs.Opens.{turn_opens};
 use crate::cyclic_list::LONGEST_CYCLE;
 use crate::timeline::Timeline;
 
-/// Each search for a fit begins at a time before this one, in ns, so it ends before `END_OF_TURNS`.
+/// End of the times, in ns, at which a search for a fit may begin. So each search ends before `END_OF_TURNS`.
 pub const END_OF_SEARCHES: u64 = 9_000_000_000_000_000_000;
 
 /// Whether a gate state opens `class`: bit c of the state opens class c. `first_fit`, `longest_open_time` and functions of `bridge_bounds`,

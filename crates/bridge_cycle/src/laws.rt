@@ -1,4 +1,4 @@
-//! Laws of the definitions. Each law is the contract of a function without a body.
+//! Laws of gate control lists, and of the times at which a transmission fits. Each law is the contract of a function without a body.
 ghost use Rattle.std.specs.Prelude.{◌≡◌, ℕ, Bool, true, ◌+◌, ◌*◌, ◌^◌, ◌<◌, ◌≤◌, ◌↔◌, Some};
 ghost use Rattle.bridge_limits.specs.Members.{IsMember};
 ghost use Rattle.bridge_cycle.specs.declared.run.Run.{Run};
@@ -14,8 +14,9 @@ use crate::cyclic_list::{LONGEST_CYCLE, MAX_ENTRIES};
 use crate::fit_search::END_OF_SEARCHES;
 use crate::timeline::END_OF_TURNS;
 
-/// For periodic open times, a transmission fits at some time exactly if it fits at a time within the first cycle. So a search of one cycle
-/// decides whether a frame ever fits.
+/// If open times are periodic, a transmission fits at some time exactly if it fits at a time within the first cycle.
+///
+/// So a search of one cycle decides whether a frame ever fits.
 pub fn some_fits_is_fits()
     ensures { (opens : ℕ → Bool) (cycle occ : ℕ)
         → 0 < cycle
@@ -23,7 +24,8 @@ pub fn some_fits_is_fits()
         → (fits_somewhere opens cycle occ ≡ true) ↔ ((t : ℕ) × Fits opens occ t) }
 {}
 
-/// For periodic open times, a transmission that fits somewhere fits within a cycle of any time. So searches for fits end within a cycle.
+/// If open times are periodic, a transmission that fits at some time fits within a cycle of any time. So searches for fits end within a
+/// cycle.
 pub fn fits_near()
     ensures { (opens : ℕ → Bool) (cycle occ t from : ℕ)
         → 0 < cycle
@@ -37,8 +39,8 @@ pub fn list_repeats()
     ensures { (l : Cyclic ℕ) (class : ℕ) → IsLawful l → IsPeriodic (λ v. turn_opens (turn_by_time l v) class) l.cycle }
 {}
 
-/// The longest run allows a transmission of `occ` ns exactly if the transmission fits at some time. So the longest run decides whether a
-/// port drops a frame as `NeverFits`.
+/// The longest run of a class allows a transmission of `occ` ns exactly if the transmission fits at some time. So the longest run decides
+/// whether a port drops a frame as `NeverFits`.
 pub fn allowed_is_fitting()
     ensures { (opens : ℕ → Bool) (run : Run)
         → IsLongestRun opens run
@@ -61,8 +63,9 @@ pub fn state_is_of_an_entry<S: Copy>()
         → (e : S × ℕ) × IsMember e l.entries × (e.0 ≡ x.state) }
 {}
 
-/// A joined list opens a class as the old list does before the change, and as the new list does from the change on. So each list's laws
-/// apply on its side of the change.
+/// With a schedule change, a class is open as in the old list before the change, and as in the new list from then on.
+///
+/// So each list's laws apply on its side of the change.
 pub fn changing_list_opens()
     ensures before { (j : joined.Joined ℕ) (class t : ℕ)
         → t < j.at
@@ -72,8 +75,8 @@ pub fn changing_list_opens()
         → turn_opens (joined.turn_by_time j t) class ≡ turn_opens (turn_by_time j.new t) class }
 {}
 
-/// A transmission that the longest runs of both lists allow fits the joined list at most 2 s after any time, despite the change. So
-/// searches for fits end at a schedule change, too.
+/// A transmission that the longest runs of both lists allow fits at most 2 s after any time, despite the schedule change. So searches for
+/// fits end at a schedule change, too.
 pub fn changing_list_fits_soon()
     ensures { (j : joined.Joined ℕ) (class : ℕ) (old new : Run)
         → joined.IsLawful j

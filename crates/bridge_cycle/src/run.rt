@@ -54,8 +54,8 @@ pub fn longest_run<A: Allocator + Copy>(list: &CyclicList<u8, A>, class: u8) -> 
     }
 }
 
-/// Returns the longest time in ns for which `class` is open without a break in the first two cycles. The last interval counts to its end.
-/// `longest_run` calls it.
+/// Returns the longest time in ns for which `class` is open without a break in the first two cycles. An interval that reaches beyond them
+/// counts to its end. `longest_run` calls it.
 fn longest_open_time<L: Timeline<State = u8>>(timeline: &L, class: u8) -> u64
     requires { class < 8 }
     ensures { IsLongestFit (λ v. turn_opens (L.turn_at timeline.now v) class) (2 * L.cycle_of timeline.now) result }

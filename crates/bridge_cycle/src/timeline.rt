@@ -4,7 +4,7 @@ ghost use Rattle.bridge_cycle.specs.declared.timeline.Turn.{Turn};
 
 use crate::cyclic_list::LONGEST_CYCLE;
 
-/// Callers ask a timeline only for intervals that contain a time before this one, in ns.
+/// End of the times, in ns, at which callers may ask a timeline for its interval. A caller asks only for earlier times.
 pub const END_OF_TURNS: u64 = 9_100_000_000_000_000_000;
 
 /// Interval of a list, in which one state is in force.
@@ -32,7 +32,7 @@ pub trait Timeline {
     /// Cycle time in ns: an interval ends at most this time after each time within it.
     ghost cycle_of: { Self → ℕ };
 
-    /// Returns the interval that contains time `t` in ns. Searches for fits and delay bounds pass through intervals by it.
+    /// Returns the interval that contains time `t` in ns. Searches for fits and delay bounds call it to go from interval to interval.
     fn turn(&self, t: u64) -> Turn<Self::State>
         requires { t < END_OF_TURNS }
         ensures lawful { is_lawful self.now }

@@ -31,7 +31,7 @@ impl Agenda for RowAgenda {
     }
 }
 
-/// Returns the port with the least time, and this time; `None` if no port has a time. `least` calls it.
+/// Returns the port with the least time, and this time; `None` if no port has a time. `RowAgenda::least` calls it.
 fn least_entry(row: &[Option<u64>]) -> Option<(u8, u64)>
     requires { length row.now < 256 }
     ensures { IsLeast (row_time row.now) result }

@@ -148,7 +148,7 @@ fn put_key(
     firsts[0].min(*rest)
 }
 
-/// Returns the time of the port with index `place`, if it has one. `least_late_entry` reads all times by it.
+/// Returns the time of the port with index `place`; `None` if the port has no time. `least_late_entry` calls it for each port.
 fn nth_time(keys: &[u64; 16], times: &[u64; 16], place: usize) -> Option<u64>
     requires { place < 16 }
     ensures { result ≡ nth_time keys.now times.now place }
@@ -161,7 +161,9 @@ fn nth_time(keys: &[u64; 16], times: &[u64; 16], place: usize) -> Option<u64>
 }
 
 /// Returns the port with the least time, and this time, by a search of all times; `None` if no port has a time. Keys can't order times from
-/// `LATE` on. `least` calls it.
+/// `LATE` on.
+///
+/// `TreeAgenda::least` calls it.
 #[cold]
 #[inline(never)]
 fn least_late_entry(keys: &[u64; 16], times: &[u64; 16]) -> Option<(u8, u64)>

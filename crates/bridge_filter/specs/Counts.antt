@@ -57,7 +57,7 @@ filter_flags p n f ss = record {
   red = is_meter_red p f.meter ss;
 }
 
--- Bucket levels of the filter's meter after the results `ss`, in units; `None` if the filter has no meter.
+-- Bucket levels of the filter's meter after the results `ss`, in units of 1/(8*10^9) octet; `None` if the filter has no meter.
 abbrev pub filter_buckets : PolicePlans → Option ℕ → List FilterStep → Option Buckets
 filter_buckets p None ss = None
 filter_buckets p (Some m) ss = Some (meter.history_buckets (p.meters m) (meter.meter_history (p.meters m) (meter_share m ss)))

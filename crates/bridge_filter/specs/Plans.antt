@@ -45,7 +45,7 @@ all_have_priorities gates = list_all (λ g. has_valid_priorities g.1.schedule) g
 abbrev pub all_within_limits : List (ℕ × MeterPlan) → Bool
 all_within_limits meters = list_all (λ m. is_within_limits m.1) meters
 
--- Rules for a stream gate that the plan lacks: it is closed at all times, and no flag shuts it. No accepted plan needs them.
+-- Rules for a stream gate that the plan lacks: it is closed at all times, and no flag shuts it. No valid plan needs these rules.
 abbrev pub closed_gate : GateRules
 closed_gate = record { turn_at = λ t. None; shut_on_rx = false; shut_on_octets = false }
 

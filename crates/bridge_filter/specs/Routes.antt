@@ -1,4 +1,5 @@
--- How a frame's filter is found: each stream handle has a row with the least filter number for each priority.
+-- How a frame's filter is found: each stream handle has a row with one route for each priority, to the matching filter
+-- with the least number.
 use Rattle.std.specs.Prelude.{◌≡◌, ℕ, ◌<◌, Bool, false, ◌&&◌, nat_eq, nat_lt, min, Option, Some, None, is_none, IfSome, List, [], ◌∷◌, length, map, if◌then◌else◌, slice_index_or, slice_get}
 use Rattle.std.specs.Option.{option_map, unwrap_or}
 use Rattle.std.specs.Map.{lookup, keys_of}
@@ -18,11 +19,11 @@ abbrev pub least_passing : (FilterPlan → Bool) → List (ℕ × FilterPlan) �
 least_passing test [] = None
 least_passing test (f ∷ fs) = if test f.1 then lesser_number (Some f.0) (least_passing test fs) else least_passing test fs
 
--- Least number of the filters that match this handle and priority.
+-- Least number of the filters that match this handle and priority; `None` if no filter matches.
 abbrev pub least_match : Option ℕ → ℕ → List (ℕ × FilterPlan) → Option ℕ
 least_match handle priority fs = least_passing (λ f. is_handle_match f.handle handle && is_priority_match f.priority priority) fs
 
--- Least number of the filters without a handle that match this priority.
+-- Least number of the filters without a handle that match this priority; `None` if there is no such filter.
 abbrev pub least_unnamed : ℕ → List (ℕ × FilterPlan) → Option ℕ
 least_unnamed priority fs = least_passing (λ f. is_none f.handle && is_priority_match f.priority priority) fs
 
@@ -31,7 +32,7 @@ abbrev pub is_named_handle : ℕ → Option ℕ → Bool
 is_named_handle h None = false
 is_named_handle h (Some m) = nat_eq m h
 
--- Least number of the filters with exactly this handle that match this priority.
+-- Least number of the filters with exactly this handle that match this priority; `None` if there is no such filter.
 abbrev pub least_named : ℕ → ℕ → List (ℕ × FilterPlan) → Option ℕ
 least_named h priority fs = least_passing (λ f. is_named_handle h f.handle && is_priority_match f.priority priority) fs
 
@@ -58,7 +59,7 @@ abbrev pub find_row : {R : Type 0} → List (ℕ × R) → R → Option ℕ → 
 find_row rows any None = any
 find_row rows any (Some h) = unwrap_or (lookup (nat_eq h) rows) any
 
--- Routes that a row has by their indexes in the list of all routes; `None` at an index without a route.
+-- Routes at a row's indexes in the list of all routes; `None` at an index past the end of this list.
 abbrev pub read_row : List Route → List ℕ → List (Option Route)
 read_row routes row = map (λ i. slice_get routes i) row
 
@@ -66,11 +67,12 @@ read_row routes row = map (λ i. slice_get routes i) row
 abbrev pub read_rows : List Route → List (ℕ × List ℕ) → List (ℕ × List (Option Route))
 read_rows routes rows = map (λ r. (r.0, read_row routes r.1)) rows
 
--- Holds if the default row has the least numbers of the filters without a handle.
+-- Holds if the default row has, at each priority, the least number of the filters without a handle that match it.
 abbrev pub IsDefaultRow : List (Option Route) → List (ℕ × FilterPlan) → Type 0
 IsDefaultRow any fs = (k : ℕ) → k < 8 → slot_number any k ≡ least_unnamed k fs
 
--- Holds if the row of each handle has the lesser number of the default row and of the filters with exactly this handle.
+-- Holds if each handle's row has, at each priority, the lesser of two numbers: that of the default row, and the least
+-- one of the filters with exactly this handle.
 abbrev pub AreHandleRows : List (ℕ × List (Option Route)) → List (Option Route) → List (ℕ × FilterPlan) → Type 0
 AreHandleRows rows any fs = (h k : ℕ) → k < 8 → slot_number (find_row rows any (Some h)) k ≡ lesser_number (least_named h k fs) (slot_number any k)
 

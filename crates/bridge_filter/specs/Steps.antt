@@ -1,4 +1,4 @@
--- State of the police and one step of it. No public clause uses these definitions.
+-- State of the police, and how an event changes it. No public clause uses these definitions.
 use Rattle.std.specs.Prelude.{◌≡◌, ℕ, Bool, ◌+◌, ◌≤◌, ◌&&◌, ◌||◌, nat_eq, map, true, false, Option, Some, None, List, [], IsSome, if◌then◌else◌}
 use Rattle.std.specs.Map.{lookup, keys_of}
 use Rattle.bridge_meter.specs.declared.MeterPlan.{MeterPlan}
@@ -25,7 +25,7 @@ refusal f sdu =
     else if is_above_max f.plan.max_sdu sdu then Some verdict.Oversize
     else None
 
--- 1 if the condition holds, otherwise 0. Counters grow by it.
+-- Amount by which a counter grows: 1 if the condition holds, otherwise 0.
 abbrev pub count_if : Bool → ℕ
 count_if b = if b then 1 else 0
 
@@ -44,7 +44,7 @@ counters_with_verdict c v = record {
 abbrev pub state_with_verdict : FilterState → Verdict → FilterState
 state_with_verdict f v = record f { counters = counters_with_verdict f.counters v; blocked = f.blocked || (f.plan.block_oversize && is_oversize v) }
 
--- Holds if no counter of a filter exceeds `n`, so counting on can't overflow.
+-- Holds if no counter of a filter exceeds `n`.
 pub record AreBounded (c : Counters) (n : ℕ) : Type 0 where
   pub matching : c.matching ≤ n
   pub sdu_passed : c.sdu_passed ≤ n

@@ -17,8 +17,10 @@ use bridge_limits::END_OF_TIME;
 use bridge_meter::Meter;
 use std::alloc::Allocator;
 
-/// Returns the verdict on a frame of `filter`: its blocked flag and largest SDU come first, then its stream gate and meter, whose states
-/// change. `judge_frame` then counts it.
+/// Returns the verdict on a frame of `filter`. Tests the blocked flag and the maximum SDU first; then the stream gate and the meter judge
+/// the frame, and change their states.
+///
+/// `judge_frame` calls it, and then counts the verdict.
 fn frame_verdict<A: Allocator + Copy>(
     filter: &FilterState,
     route: Route,
@@ -49,8 +51,8 @@ fn frame_verdict<A: Allocator + Copy>(
     }
 }
 
-/// Judges a frame of the filter in `route`, and counts the verdict. Changes the filter, its stream gate and its meter for
-/// `Police::pass_routed`.
+/// Judges a frame of the filter in `route`, and counts the verdict. Changes the states of the filter, its stream gate and its meter.
+/// `Police::pass_routed` calls it.
 pub(crate) fn judge_frame<A: Allocator + Copy>(
     filters: &mut ByNumber<FilterState, A>,
     gates: &mut ByNumber<StreamGate<A>, A>,

@@ -22,7 +22,7 @@ use indexmap::IndexMap;
 use std::alloc::Allocator;
 use std::hash::{BuildHasherDefault, FoldHasher};
 
-/// Map from numbers to filters, stream gates, meters or rows. Routes refer to its entries by index, so no entry is removed.
+/// Map from numbers to filters, stream gates, meters or rows of routes. Routes refer to its entries by index, so no entry is removed.
 pub(crate) type ByNumber<T, A> = IndexMap<u32, T, BuildHasherDefault<FoldHasher>, A>;
 
 /// Asks the stream gate at index `place` whether a frame of `sdu` octets passes at `at` ns. The frame may shut the gate. `police_frame`
@@ -138,7 +138,9 @@ fn answer_verdict<A: Allocator + Copy>(
     }
 }
 
-/// Returns the verdict of the stream gate and the meter in `route`, on a frame that the filter itself didn't refuse. Updates both.
+/// Returns the verdict of the stream gate and the meter in `route`, on a frame that the filter itself didn't refuse. Updates the gate and,
+/// if the gate passes the frame, the meter.
+///
 /// `frame_verdict` calls it.
 pub(crate) fn police_frame<A: Allocator + Copy>(
     route: Route,

@@ -1,4 +1,4 @@
-//! Laws of the definitions. Each law is the contract of a function without a body.
+//! Laws of stream filters. Each law is the contract of a function without a body.
 
 ghost use Rattle.std.specs.Prelude.{◌≡◌, ℕ, List, Some, true};
 ghost use Rattle.bridge_limits.specs.Members.{IsMember};

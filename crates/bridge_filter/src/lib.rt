@@ -31,9 +31,9 @@ pub struct FilterPlan {
     pub meter: Option<u32>,
     /// Whether an oversize frame blocks all later frames of the filter, until a command clears the blocked flag.
     pub block_oversize: bool,
-    /// Whether the plan asks for isolation of this filter. It changes no verdict.
+    /// Whether the plan asks for isolation of this filter. The setting changes no verdict.
     pub protected: bool,
-    /// Number of the group with which the filter shares queues; `None` without a group. It changes no verdict.
+    /// Number of the group with which the filter shares queues; `None` without a group. The setting changes no verdict.
     pub group: Option<u32>,
 }
 

@@ -43,7 +43,7 @@ pub struct Police<A: Allocator + Copy> {
     meters: ByNumber<Meter, A>,
     /// Number of frames so far; it bounds every counter.
     calls: u64,
-    /// Arrival time of the last frame in ns, or 0.
+    /// Arrival time of the last frame in ns; 0 before the first.
     earliest: u64,
 }
 
@@ -128,7 +128,7 @@ impl<A: Allocator + Copy> Police<A> {
     /// Judges a frame that arrives at `t` ns, with `sdu` octets of SDU and `octets` metered octets. Returns its filter and verdict, or
     /// `None` if no filter matches. Allocates no memory.
     ///
-    /// Callers that don't know the frame's route call it; the relay calls `pass_routed`.
+    /// Only tests call it; the relay calls `find_route` and `pass_routed`.
     pub fn pass(
         &mut self,
         t: u64,
@@ -223,8 +223,8 @@ impl<A: Allocator + Copy> Police<A> {
         })
     }
 
-    /// Returns the number of the filter that judges frames with handle `handle` and priority `priority`. `None` if no filter matches.
-    /// Callers without a bridge ask it before `pass`.
+    /// Returns the number of the filter that judges frames with handle `handle` and priority `priority`. `None` if no filter matches. Only
+    /// tests call it, before `pass`.
     pub fn filter_number(&self, handle: Option<u32>, priority: u8) -> Option<u32>
         ensures filter { (at sdu octets : ℕ) (dei : Bool)
             → result ≡ option_map (λ f. f.0) (frame_filter self.now.filters
@@ -266,7 +266,7 @@ impl<A: Allocator + Copy> Police<A> {
         self.calls
     }
 
-    /// Returns the arrival time in ns of the last frame, or 0. Later frames arrive at this time or later.
+    /// Returns the arrival time in ns of the last frame; 0 before the first. Later frames arrive at this time or later.
     pub fn earliest(&self) -> u64
         ensures earliest { result ≡ self.now.earliest }
         ensures last { (p : PolicePlans) (es : List FilterEvent) → StandsFor p self.now es → result
@@ -275,7 +275,8 @@ impl<A: Allocator + Copy> Police<A> {
         self.earliest
     }
 
-    /// Returns the counters of `filter`, which must exist. The results of a run contain them. `make_view` of `bridge_relay` calls it.
+    /// Returns the counters of `filter`, which must exist. `make_view` of `bridge_relay` calls it, because the result of a run contains
+    /// them.
     pub fn counters(&self, filter: u32) -> Counters
         requires { is_listed filter self.now.filters ≡ true }
         ensures shown { state_counters filter self.now ≡ Some result }

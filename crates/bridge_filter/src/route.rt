@@ -34,8 +34,8 @@ pub(crate) type PriorityRow = [usize; 8];
 /// For each stream handle that a filter names, the row of its frames.
 pub(crate) type HandleRows<A> = ByNumber<PriorityRow, A>;
 
-/// Returns the route with the lower filter number. Of the filters that match a frame, the one with the lowest number judges it.
-/// `lesser_match` and `add_to_slot` call it.
+/// Returns the route with the lower filter number, `route` if the numbers are equal. Of the filters that match a frame, the one with the
+/// lowest number judges it. `lesser_match` calls it.
 pub(crate) fn lesser_route(route: Route, other: Option<Route>) -> Option<Route>
     ensures { result ≡ finding.lesser_route route other }
 {
@@ -132,6 +132,7 @@ fn route_in_row(routes: &[Route], row: &PriorityRow, priority: u8) -> Option<Rou
 }
 
 /// Returns the index of the stream gate or meter `number`, which must exist. Routes store it, so that a frame needs no look-up.
+/// `plan_and_route` and `optional_index` call it.
 fn instance_index<T, A: Allocator + Copy>(instances: &ByNumber<T, A>, number: u32) -> usize
     requires { IsSome (lookup (nat_eq number) instances.now.entries) }
     ensures { slice_get (keys_of instances.now.entries) result ≡ Some number }

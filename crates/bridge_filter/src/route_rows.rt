@@ -153,8 +153,10 @@ pub(crate) fn default_row<A: Allocator + Copy>(
     any
 }
 
-/// Enters the route of a filter with a handle in the row of this handle. A new row starts as a copy of the default row. `handle_rows` calls
-/// it for each filter.
+/// Enters the route of a filter with a handle in the row of this handle. A new row starts as a copy of the default row. Does nothing for a
+/// filter without handle.
+///
+/// `handle_rows` calls it for each filter.
 fn add_to_handle_row<A: Allocator + Copy>(
     rows: &mut HandleRows<A>,
     routes: &[Route],

@@ -13,7 +13,7 @@ host n = 2 ∷ 0 ∷ 0 ∷ 0 ∷ 0 ∷ n ∷ []
 abbrev group : ℕ → List ℕ
 group n = 1 ∷ 0x80 ∷ 0xc2 ∷ 0 ∷ 0 ∷ n ∷ []
 
--- Set of different ports.
+-- Set of the ports with these numbers, which must be different.
 abbrev ports : List ℕ → ℕ
 ports [] = 0
 ports (n ∷ ns) = 2 ^ (n - 1) + ports ns

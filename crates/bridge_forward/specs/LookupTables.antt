@@ -1,4 +1,4 @@
--- Tables of a filtering database. No public clause uses them.
+-- Tables of a filtering database. No public clause uses these definitions.
 use Rattle.std.specs.Prelude.{◌≡◌, ℕ, nat_eq, Option, None, List, slice_get, unwrap_or}
 use Rattle.indexmap.specs.IndexMap.{IndexMap, get}
 use Rattle.bridge_frame.specs.Addresses.{IsKey, address_key}
@@ -6,7 +6,7 @@ use Rattle.bridge_forward.specs.declared.Vlan.{Vlan}
 use Rattle.bridge_forward.specs.declared.StaticEntry.{StaticEntry}
 use Rattle.bridge_forward.specs.Database.{vlan_members, static_ports}
 
--- Set of ports at index `place`; `None` if the list is too short.
+-- Set of ports at index `place` of the table of members; `None` if the table is too short, or has no set at this index.
 abbrev pub vlan_slot : List (Option ℕ) → ℕ → Option ℕ
 vlan_slot sets place = unwrap_or (slice_get sets place) None
 

@@ -9,11 +9,11 @@ abbrev pub has_port_or : Bool → Option ℕ → ℕ → Bool
 has_port_or otherwise None port = otherwise
 has_port_or otherwise (Some set) port = has_port set port
 
--- True if the plan has the VLAN `vid`, and `port` is one of its members.
+-- True if the database has the VLAN `vid`, and `port` is one of its members.
 abbrev pub is_member : Database → ℕ → ℕ → Bool
 is_member db vid port = has_port_or false (vlan_members db.vlans vid) port
 
--- True if no static entry keeps frames to address `da` in VLAN `vid` from `port`.
+-- True if no static entry has the address `da` in VLAN `vid`, or if the first such entry has `port`.
 abbrev pub is_allowed : Database → ℕ → List ℕ → ℕ → Bool
 is_allowed db vid da port = has_port_or true (static_ports db.statics vid da) port
 

@@ -1,8 +1,8 @@
--- Sets of the ports 1 to 16, each as a number whose bit n - 1 stands for port n.
+-- Sets of the ports 1 to 16, each as a number whose bit n - 1 is 1 if port n is in the set.
 use Rattle.std.specs.Prelude.{◌≡◌, ◌≤◌, ℕ, Bool, false, ◌-◌, ◌^◌, nat_eq, bit_and}
 use Rattle.std.specs.Int.{bit_at}
 
--- True if the set of ports `set` contains port number `port`; bit n - 1 of the set stands for port n.
+-- True if the set of ports `set` contains port number `port`: bit `port` - 1 of the set is 1.
 abbrev pub has_port : ℕ → ℕ → Bool
 has_port set port = nat_eq (bit_at set (port - 1)) 1
 

@@ -31,7 +31,7 @@ fn is_reserved(da: &[u8; 6]) -> bool
 /// Returns the egress ports of a frame: members of its VLAN that its static entry allows, without ingress port `port`. The set is empty if
 /// the VLAN is unknown (`members` is `None`) or lacks `port`.
 ///
-/// `forward` calls it.
+/// `Forwarding::forward` calls it.
 #[inline(always)]
 fn output_ports(members: Option<PortSet>, entry: Option<PortSet>, port: u8) -> PortSet
     requires from { 1 ≤ port }
@@ -78,7 +78,9 @@ impl<A: Allocator + Copy> Model for Forwarding<A> {
 }
 
 impl<A: Allocator + Copy> Forwarding<A> {
-    /// Makes a database. If several VLANs or static entries have one key, the first applies. If memory runs out, both lists are dropped.
+    /// Makes a database. If several VLANs have one identifier, or several static entries one VLAN and address, the first applies. If memory
+    /// runs out, both lists are dropped.
+    ///
     /// `read_plan` of `bridge_config` calls it.
     pub fn new(
         alloc: A,
@@ -134,7 +136,7 @@ impl<A: Allocator + Copy> Forwarding<A> {
         output_ports(self.vlan_members(vid), self.static_ports(vid, da), port)
     }
 
-    /// Returns the members of a VLAN; `None` if the database lacks it. `forward` calls it.
+    /// Returns the members of a VLAN; `None` if the database lacks it. `Forwarding::forward` calls it.
     #[inline(always)]
     fn vlan_members(&self, vid: u16) -> Option<PortSet>
         ensures { result ≡ vlan_members self.now.vlans vid }

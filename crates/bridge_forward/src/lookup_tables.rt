@@ -42,7 +42,7 @@ fn insert_members(members: &mut [Option<PortSet>], vid: u16, ports: PortSet)
     }
 }
 
-/// Makes the table of members, indexed by VLAN identifier, so that forwarding takes constant time. `new` calls it.
+/// Makes the table of members, indexed by VLAN identifier, so that forwarding takes constant time. `Forwarding::new` calls it.
 pub(crate) fn make_member_table<A: Allocator + Copy>(
     alloc: A,
     vlans: &[Vlan],
@@ -119,7 +119,7 @@ pub(crate) fn make_hints<A: Allocator + Copy>(
     Ok(hints)
 }
 
-/// Returns the ports at index `place` if they have this key, otherwise `None`. `static_ports` tests a hint by it.
+/// Returns the ports at index `place` if they have this key, otherwise `None`. `static_ports` calls it to test a hint.
 #[inline(always)]
 pub(crate) fn ports_by_index<A: Allocator + Copy>(
     entries: &StaticTable<A>,
@@ -146,7 +146,8 @@ pub(crate) fn ports_by_hash<A: Allocator + Copy>(
     entries.get(&key).copied()
 }
 
-/// Makes the table of the ports of static entries, by VLAN identifier and address, so that forwarding takes constant time. `new` calls it.
+/// Makes the table of the ports of static entries, by VLAN identifier and address, so that forwarding takes constant time.
+/// `Forwarding::new` calls it.
 pub(crate) fn make_static_table<A: Allocator + Copy>(
     alloc: A,
     statics: &[StaticEntry],

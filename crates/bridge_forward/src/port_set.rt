@@ -5,10 +5,10 @@ ghost use Rattle.bridge_forward.specs.Ports.{has_port, without_port, IsEmpty};
 
 use std::marker::Model;
 
-/// Set of the ports 1 to 16. Contracts see a number whose bit n - 1 is 1 exactly if port n is in the set.
+/// Set of the ports 1 to 16. In contracts, a set is a number whose bit n - 1 is 1 exactly if port n is in the set.
 #[derive(Clone, Copy, Debug, PartialEq, Eq)]
 pub struct PortSet {
-    /// Bit n - 1 stands for port n.
+    /// Bit n - 1 is 1 if port n is in the set.
     bits: u16,
 }
 
@@ -30,22 +30,22 @@ fn has_no_port(bits: u16) -> bool
 }
 
 impl PortSet {
-    /// Makes a set of bits: bit n - 1 stands for port n. `output_ports`, `Forwarding::forward` and functions of `bridge_config` and
-    /// `net_model` call it.
+    /// Makes a set of bits: bit n - 1 is 1 if port n is in the set. `output_ports`, `Forwarding::forward` and functions of `bridge_config`
+    /// and `net_model` call it.
     pub fn from_bits(bits: u16) -> PortSet
         ensures { result ≡ bits }
     {
         PortSet { bits }
     }
 
-    /// Returns the bits of the set: bit n - 1 stands for port n. Functions of `bridge_relay` and `net_model` call it.
+    /// Returns the bits of the set: bit n - 1 is 1 if port n is in the set. Functions of `bridge_relay` and `net_model` call it.
     pub fn bits(self) -> u16
         ensures { result ≡ self }
     {
         self.bits
     }
 
-    /// Whether the set contains `port`. Bridges, checks of plans and warnings ask it.
+    /// Whether the set contains `port`. Bridges, checks of plans and warnings call it.
     pub fn has(self, port: u8) -> bool
         requires from { 1 ≤ port }
         requires to { port ≤ 16 }
@@ -54,7 +54,7 @@ impl PortSet {
         self.bits >> (port - 1) & 1 == 1
     }
 
-    /// Whether the set contains none of the ports 1 to 16. A frame with such a set isn't forwarded.
+    /// Whether the set contains none of the ports 1 to 16. A frame without egress ports isn't forwarded.
     pub fn is_empty(self) -> bool
         ensures { IsTrue result ↔ IsEmpty self }
     {

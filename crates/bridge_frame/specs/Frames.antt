@@ -1,4 +1,4 @@
--- The head of an Ethernet frame with an optional C-VLAN tag (IEEE 802.1Q-2018, clause 9).
+-- The header of an Ethernet frame with an optional C-VLAN tag (IEEE 802.1Q-2018, clause 9).
 use Rattle.std.specs.Prelude.{ℕ, Bool, true, ◌+◌, ◌-◌, ◌*◌, ◌/◌, ◌%◌, ◌&&◌, nat_lt, nat_le, nat_eq, List, length, take, drop, slice_index, slice_set, Some, None, option_map, Result, Ok, Err, if◌then◌else◌}
 use Rattle.bridge_limits.specs.declared.TheConstants.{LONGEST_FRAME}
 use Rattle.bridge_frame.specs.declared.Head.{Head}
@@ -19,7 +19,7 @@ frame_tag octets = record {
   vid = slice_index octets 14 % 16 * 256 + slice_index octets 15 % 256;
 }
 
--- Number of the fault of a frame's header: 1 or 2.
+-- Number of the fault of a frame's header, 1 or 2, by which contracts compare faults.
 abbrev pub fault_code : FrameFault → ℕ
 fault_code TooShort = 1
 fault_code TooLong = 2

@@ -11,7 +11,7 @@ bits_per_second Mbps1000 = 1000 * 10 ^ 6
 bits_per_second Mbps2500 = 2500 * 10 ^ 6
 bits_per_second Mbps10000 = 10000 * 10 ^ 6
 
--- Link speed of `mbps` Mb/s; `None` if no such speed exists.
+-- Link speed of `mbps` Mb/s; `None` for any number other than 10, 100, 1000, 2500 and 10000.
 abbrev pub speed_by_mbps : ℕ → Option Speed
 speed_by_mbps mbps =
     if nat_eq mbps 10 then Some Mbps10

@@ -40,7 +40,7 @@ pub struct Head {
 /// Reason why a frame is malformed.
 #[derive(Clone, Copy, Debug, PartialEq, Eq, Error)]
 pub enum FrameFault {
-    /// Fewer octets than a header has: 14, or 18 with a tag.
+    /// Fewer captured octets than a header has: 14, or 18 with a tag.
     #[error("the frame is too short")]
     TooShort,
     /// Length above 9,216 octets.
@@ -49,7 +49,7 @@ pub enum FrameFault {
 }
 
 impl FrameFault {
-    /// Returns the number of the fault: 1 for `TooShort`, 2 for `TooLong`. Contracts compare faults by it.
+    /// Returns the number of the fault: 1 for `TooShort`, 2 for `TooLong`. Contracts compare faults by this number.
     pub fn number(self) -> u8
         ensures { result ≡ fault_code self }
     {
@@ -76,8 +76,8 @@ pub enum Speed {
 }
 
 impl Speed {
-    /// Returns the speed for `mbps` Mb/s: 10, 100, 1000, 2500 or 10000. `None` for any other number. `parse_speed` of `app_cli` and `read`
-    /// of `bridge_schema` call it.
+    /// Returns the speed for `mbps` Mb/s: 10, 100, 1000, 2500 or 10000. `None` for any other number. `parse_speed` of `app_cli` and
+    /// `Mbps::read` of `bridge_schema` call it.
     pub fn of(mbps: u32) -> Option<Speed>
         ensures { result ≡ speed_by_mbps mbps }
     {
@@ -224,7 +224,7 @@ pub fn occupation(len: u32, speed: Speed) -> u64
     ensures bounded { len ≤ LONGEST_FRAME → result ≤ 7_392_000 }
 {
     let octets = u64::from(len.max(60)) + 24;
-    // Most links have this speed, and a test costs less than a jump by a table.
+    // Most links have 1,000 Mb/s, and a test costs less than a jump by a table.
     if let Speed::Mbps1000 = speed {
         return octets * 8;
     }

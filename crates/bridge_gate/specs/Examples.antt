@@ -1,4 +1,4 @@
--- Limits of octets and flags of a stream gate, computed.
+-- Examples of octet limits and flags of a stream gate, computed.
 use Rattle.std.specs.Prelude.{◌≡◌, true, false, Some, None, [], ◌∷◌, refl}
 use Rattle.bridge_gate.specs.declared.stream_gate.GateAnswer.TheVariants.{Closed}
 use Rattle.bridge_gate.specs.Gates.{is_over_limit, is_shut_by_rx, Answered, RxCleared}

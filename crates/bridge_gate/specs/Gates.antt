@@ -60,8 +60,8 @@ abbrev pub is_over_limit : Option ℕ → ℕ → Bool
 is_over_limit None n = false
 is_over_limit (Some limit) n = nat_lt limit n
 
--- Answer of a gate without set flags. Closed: the interval is closed or absent. OctetsExceeded: with this frame, the interval exceeds its octet
--- limit. Otherwise Through, with the interval's internal priority value.
+-- Answer of a gate without set flags. Closed: the interval is closed or absent. OctetsExceeded: with this frame, the
+-- interval exceeds its octet limit. Otherwise Through, with the interval's internal priority value.
 abbrev pub turn_answer : GateRules → List GateStep → ℕ → Option (Turn GateEntry) → GateAnswer
 turn_answer r ss sdu None = Closed
 turn_answer r ss sdu (Some x) =

@@ -1,4 +1,4 @@
--- The schedule of a stream gate: its state at each time.
+-- The schedule of a stream gate: its interval at each time.
 use Rattle.std.specs.Prelude.{◌≡◌, ℕ, Bool, true, ◌<◌, ◌≤ℤ◌, ◌&&◌, Option, Some, None, pos, nat_le}
 use Rattle.std.specs.List.{list_all}
 use Rattle.bridge_cycle.specs.Cyclic as cyclic

@@ -30,17 +30,17 @@ pub enum Schedule<A: Allocator + Copy> {
 /// Settings of a stream gate: its schedule, and which refusals shut the gate until a command clears its flag.
 #[derive(Drop)]
 pub struct GatePlan<A: Allocator + Copy> {
-    /// Whether a frame at the closed gate shuts the gate until a command.
+    /// Whether a frame at the closed gate shuts the gate until a command clears the receive flag.
     pub shut_on_rx: bool,
-    /// Whether a frame over the octet limit shuts the gate until a command.
+    /// Whether a frame over the octet limit shuts the gate until a command clears the octets flag.
     pub shut_on_octets: bool,
     /// Schedule of the gate.
     pub schedule: Schedule<A>,
 }
 
 impl<A: Allocator + Copy> Schedule<A> {
-    /// Returns the interval that contains time `t` in ns. A fixed state is one interval. A stream gate calls it if a frame arrives outside
-    /// its stored interval.
+    /// Returns the interval that contains time `t` in ns. A fixed state is one interval. `StreamGate::new` calls it, and `find_turn` if a
+    /// frame arrives outside the stored interval.
     pub fn turn(&self, t: u64) -> Turn<GateEntry>
         requires { t < END_OF_TURNS }
         ensures turn { turn_by_time self.now t ≡ Some result }
@@ -61,7 +61,7 @@ impl<A: Allocator + Copy> Schedule<A> {
         }
     }
 
-    /// Whether each internal priority value is 0 to 7. A stream gate is made only with such values.
+    /// Whether each internal priority value is 0 to 7 or absent. A stream gate is made only with such values.
     pub fn has_valid_priorities(&self) -> bool
         ensures { result ≡ has_valid_priorities self.now }
     {

@@ -25,7 +25,7 @@ pub enum GateAnswer {
     OctetsExceeded,
 }
 
-/// Stream gate (IEEE 802.1Q-2018, 8.6.5.1.2) with its two flags and the octets passed in the interval.
+/// Stream gate (IEEE 802.1Q-2018, 8.6.5.1.2) with its two flags, and the octets that have passed in the interval of the last counted frame.
 #[derive(Drop)]
 pub struct StreamGate<A: Allocator + Copy> {
     /// Schedule, and which refusals shut the gate.
@@ -38,7 +38,7 @@ pub struct StreamGate<A: Allocator + Copy> {
     start: i64,
     /// SDU octets that passed in the interval that started at `start`.
     count: u64,
-    /// Arrival time in ns of the last frame, or 0.
+    /// Arrival time in ns of the last frame; 0 before the first.
     earliest: u64,
     /// Interval of the last search. Later frames in this interval need no search.
     turn: Turn<GateEntry>,
@@ -106,8 +106,8 @@ impl<A: Allocator + Copy> StreamGate<A> {
         self.answer_frame(t, turn, sdu)
     }
 
-    /// Returns the interval that contains time `t`: the kept interval, or an interval from the schedule, which the gate then keeps. `ask`
-    /// calls it.
+    /// Returns the interval that contains time `t`: the stored interval, or else an interval of the schedule, which the gate then stores.
+    /// `ask` calls it.
     #[inline(always)]
     fn find_turn(&mut self, t: u64) -> Turn<GateEntry>
         requires range { t < END_OF_TIME }
@@ -164,7 +164,7 @@ impl<A: Allocator + Copy> StreamGate<A> {
         (self.rx, self.octets)
     }
 
-    /// Returns the arrival time in ns of the last frame, or 0. Later frames arrive at this time or later.
+    /// Returns the arrival time in ns of the last frame; 0 before the first. Later frames arrive at this time or later.
     pub fn earliest(&self) -> u64
         ensures earliest { result ≡ self.now.earliest }
         ensures last { (r : GateRules) (es : List GateEvent)
@@ -196,7 +196,8 @@ impl<A: Allocator + Copy> StreamGate<A> {
         answer
     }
 
-    /// Returns the number of SDU octets that passed in the interval that starts at `start`; 0 if none passed. `answer_frame` calls it.
+    /// Returns the number of SDU octets that the gate has counted in the interval that starts at `start`; 0 for another interval.
+    /// `answer_frame` calls it.
     fn turn_octets(&self, start: i64) -> u64
         ensures used { result ≡ counted_octets self.now start }
         ensures few { result < 2 ^ 32 }

@@ -48,7 +48,8 @@ abbrev pub has_tokens : Option (ℕ × ℕ) → ℕ → ℕ → Bool
 has_tokens None burst rate = false
 has_tokens (Some tokens) burst rate = nat_le burst tokens.0 && nat_le rate tokens.1
 
--- True if filter `f` admits each talker with SDUs of at most `most` octets, a burst of `burst` octets and a rate of `rate` bit/s.
+-- True if filter `f` admits each talker with SDUs of at most `most` octets, a burst of `burst` octets and a rate of `rate` bit/s. Its
+-- stream gate must always be open.
 abbrev pub admits_talker : {A : Type 0} → Plan A → FilterPlan → ℕ → ℕ → ℕ → Bool
 admits_talker p f most burst rate =
     is_open_gate (lookup (nat_eq f.gate) p.gates)

@@ -11,11 +11,12 @@ module _ {X : Type 0} where
   part_copies own [] = []
   part_copies own (x ∷ xs) = if own x.item then x ∷ part_copies own xs else part_copies own xs
 
-  -- Holds if the copy was dropped, or its transmission ended by time `t`.
+  -- Holds if copy `y` was dropped, is still queued, or its transmission ended by time `t`.
   abbrev pub HasLeftBy : PortRules X → ℕ → Copy X → Type 0
   HasLeftBy r t y = done_time_or y.fate (r.occ y.item) 0 ≤ t
 
-  -- Holds if each copy arrives when all older copies of the other part have left.
+  -- Holds if each copy arrives when all older copies of the other part have left (HasLeftBy). One part has the items for which `own` is
+  -- true, the other part the rest.
   abbrev pub AreApart : PortRules X → (X → Bool) → List (Copy X) → Type 0
   AreApart r own [] = Unit {0}
   AreApart r own (x ∷ xs) = ((y : Copy X) → IsMember y xs → own y.item ≡ not (own x.item) → HasLeftBy r x.at y) × AreApart r own xs
@@ -30,8 +31,8 @@ module _ {X : Type 0} where
   is_in_part own true x = own x
   is_in_part own false x = not (own x)
 
-  -- Holds if both parts have a delay bound by themselves. If a part has the port to itself up to some time, each of its copies left at most
-  -- `delay` ns after its arrival.
+  -- Holds if both parts have a delay bound by themselves. While a part has the port to itself, each of its copies leaves at most `delay` ns
+  -- after its arrival, or is dropped.
   abbrev pub HaveDelayBounds : PortRules X → (X → Bool) → (Bool → ℕ) → List (Copy X) → Type 0
   HaveDelayBounds r own delay xs =
       (ys : List (Copy X)) (b : Bool) (y : Copy X)
@@ -40,7 +41,8 @@ module _ {X : Type 0} where
       → IsMember y (part_copies (is_in_part own b) ys)
       → HasLeftBy r (y.at + delay b) y
 
-  -- Holds if each copy arrives when the delay bound of each older copy of the other part is over.
+  -- Holds if each copy arrives when the delay bound of each older copy of the other part is over. `delay` gives the bound of each part in
+  -- ns.
   abbrev pub ArriveApart : (X → Bool) → (Bool → ℕ) → List (Copy X) → Type 0
   ArriveApart own delay [] = Unit {0}
   ArriveApart own delay (x ∷ xs) =

@@ -15,7 +15,8 @@ use Rattle.bridge_groups.specs.LinearCurves.{IsLinearCurve, curve_at}
 use Rattle.bridge_groups.specs.Curves.{optional_burst, optional_rate}
 use Rattle.bridge_groups.specs.Sharers.{sdu_or_zero}
 
--- Holds if each run of fits of `fit` ns starts with a fit of `long` ns. A fit is a time at which a transmission fits.
+-- Holds if each run of fits of `fit` ns starts with a fit of `long` ns. A fit is a time at which a transmission fits the open times
+-- `opens`.
 abbrev pub HasLongStarts : (ℕ → Bool) → ℕ → ℕ → Type 0
 HasLongStarts opens fit long = (v : ℕ) → ¬ Fits opens fit v → Fits opens fit (v + 1) → Fits opens long (v + 1)
 
@@ -33,7 +34,8 @@ rounding_margin Mbps10000 = 2
 abbrev pub octet_cost : ℕ → Speed → ℕ → ℕ
 octet_cost fit speed sdu = max (2 * transmission_time 60 speed) (div_ceil (128 * ((2 * transmission_time (longest_frame sdu) speed + rounding_margin speed) - fit)) (metered_octets (longest_frame sdu)))
 
--- The cost curve in ns of filter `f`: the greatest total cost of frames that its meter passes in any `w` ns.
+-- The cost curve in ns of filter `f`: a bound of the total cost of the frames that its meter passes in any `w` ns. Bounds count fits of
+-- `fit` ns.
 abbrev pub filter_cost_curve : {A : Type 0} → Plan A → ℕ → Speed → FilterPlan → ℕ → ℕ
 filter_cost_curve p fit speed f w = octet_cost fit speed (sdu_or_zero f.max_sdu) * (optional_burst (plan_police p).meters f.meter * octet_units + optional_rate (plan_police p).meters f.meter * w) / (128 * octet_units)
 

@@ -20,7 +20,8 @@ abbrev pub recent_offer_cost : (ℕ → ℕ) → ℕ → List Offer → ℕ
 recent_offer_cost cost u [] = 0
 recent_offer_cost cost u (o ∷ os) = (if nat_le u o.at then cost o.item.len else 0) + recent_offer_cost cost u os
 
--- The total cost of the copies that filter `n` offered at time `u` or later.
+-- The total cost in ns of the copies that filter `n` offered at time `u` or later. `cost` is the cost in ns of a frame with a given number
+-- of octets.
 abbrev pub recent_filter_cost : (ℕ → ℕ) → ℕ → ℕ → List Offer → ℕ
 recent_filter_cost cost n u [] = 0
 recent_filter_cost cost n u (o ∷ os) = (if has_filter_number o.item.flow n && nat_le u o.at then cost o.item.len else 0) + recent_filter_cost cost n u os
@@ -30,7 +31,7 @@ abbrev pub recent_sharer_cost : (ℕ → ℕ) → List (ℕ × FilterPlan) → �
 recent_sharer_cost cost [] u os = 0
 recent_sharer_cost cost (g ∷ gs) u os = recent_filter_cost cost g.0 u os + recent_sharer_cost cost gs u os
 
--- Holds if the copies that filter `n` offers to class `c` of port `out` in any `w` ns cost at most `own w`. Frames arrive in
--- order.
+-- Holds if the copies that filter `n` offers to class `c` of port `out` in any `w` ns cost at most `own w` ns. This concerns only events
+-- whose frames are in order.
 abbrev pub HasFilterCostCurve : {A : Type 0} → Plan A → PortPlan A → ℕ → ℕ → (ℕ → ℕ) → (ℕ → ℕ) → Type 0
 HasFilterCostCurve p out c n cost own = (u w : ℕ) (es : List Event) → AreArrivalsInOrder es → last_arrival_time es ≤ u + w → recent_filter_cost cost n u (class_offers c (port_offers p out es)) ≤ own w

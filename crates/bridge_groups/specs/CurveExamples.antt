@@ -1,4 +1,4 @@
--- Arrival curves, allowances and talkers, computed.
+-- Computed examples of arrival curves, meters' allowances and talkers.
 use Rattle.std.specs.Prelude.{◌≡◌, ℕ, ◌+◌, ◌*◌, Bool, true, false, None, Some, List, [], ◌∷◌, map, nat_eq, refl}
 use Rattle.bridge_cycle.specs.Cyclic.{Cyclic}
 use Rattle.bridge_gate.specs.declared.schedule.GateEntry.{GateEntry}
@@ -25,7 +25,7 @@ work_of_the_last_two = refl
 pub count_of_the_last_two : count_recent_copies 500 three_copies ≡ 2
 count_of_the_last_two = refl
 
--- The part of the short frames.
+-- The copies whose transmission takes 672 ns are one part of the queue's copies.
 pub part_of_short_frames : map (λ (x : Copy ℕ). x.at) (part_copies (λ (n : ℕ). nat_eq n 672) three_copies) ≡ 900 ∷ 500 ∷ []
 part_of_short_frames = refl
 

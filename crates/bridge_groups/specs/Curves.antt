@@ -127,8 +127,8 @@ HasNoRunts [] = Unit {0}
 HasNoRunts (Arrived a ∷ es) = (60 ≤ a.len) × HasNoRunts es
 HasNoRunts (Cleared clear n ∷ es) = HasNoRunts es
 
--- Holds if `own` is an arrival curve of the copies that filter `n` offers to class `c` of port `out`. Frames arrive in order
--- and have at least 60 octets.
+-- Holds if `own` is an arrival curve of the copies that filter `n` offers to class `c` of port `out`. This concerns only events whose
+-- frames are in order and have at least 60 octets.
 abbrev pub HasFilterCurve : {A : Type 0} → Plan A → PortPlan A → ℕ → ℕ → (ℕ → ℕ) → Type 0
 HasFilterCurve p out c n own = (u w : ℕ) (es : List Event) → AreArrivalsInOrder es → HasNoRunts es → last_arrival_time es ≤ u + w → recent_filter_work out.speed n u (class_offers c (port_offers p out es)) ≤ own w
 

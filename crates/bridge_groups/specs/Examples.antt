@@ -1,4 +1,4 @@
--- A class that 20 streams of a vehicle share, and the definitions of groups, computed.
+-- Computed examples of groups: a class that 20 streams of a vehicle share.
 use Rattle.std.specs.Prelude.{◌≡◌, ℕ, zero, suc, ◌+◌, ◌*◌, ◌/◌, true, false, List, [], ◌∷◌, ◌++◌, Option, None, Some, nat_eq, nat_lt, pos, if◌then◌else◌, refl}
 use Rattle.bridge_frame.specs.declared.Speed.TheVariants.{Mbps1000, Mbps10000}
 use Rattle.bridge_frame.specs.Link.{transmission_time}
@@ -33,7 +33,7 @@ meter burst rate = record { cir = rate; cbs = burst; eir = 0; ebs = 0; coupling 
 abbrev meters : ℕ → MeterPlan
 meters n = if nat_eq n 1 then meter 276 220800 else if nat_eq n 2 then meter 1020 408000 else meter 84 672000
 
--- A filter of stream `handle` with a gate and a meter.
+-- A filter of stream `handle` with the gate of this number and meter `kind`.
 abbrev filter : ℕ → ℕ → FilterPlan
 filter handle kind = record { handle = Some handle; priority = Some 6; gate = handle; max_sdu = Some 1500; meter = Some kind; block_oversize = false; protected = false; group = Some 1 }
 
@@ -80,7 +80,7 @@ work_of_twenty = refl
 pub frames_of_twenty : frame_limit meters twenty 0 ≡ 128
 frames_of_twenty = refl
 
--- In 10 ms the rates give further frames: 8, 23 and 14 frames for each radar, lidar and brake.
+-- In 10 ms, the meters pass at most 8, 23 and 14 frames for each radar, lidar and brake.
 pub frames_in_10_ms : frame_limit meters twenty 10000000 ≡ 286
 frames_in_10_ms = refl
 
@@ -204,14 +204,14 @@ one_turn = refl
 pub two_turns : is_same_turn (turns 999) (turns 1000) ≡ false
 two_turns = refl
 
--- From 998 ns on, 1 ns is in one interval, and 2 ns are in two.
+-- From 998 ns to 999 ns, there is one interval; from 998 ns to 1,000 ns, there are two.
 pub budget_of_one_turn : octet_budget turns 998 1 ≡ 500
 budget_of_one_turn = refl
 
 pub budget_of_two_turns : octet_budget turns 998 2 ≡ 1200
 budget_of_two_turns = refl
 
--- A frame of 46 octets passed, the next one didn't.
+-- Frames of 50 and 46 octets passed; the gate refused the third frame.
 abbrev answered : List GateStep
 answered = Answered 2000 46 Closed ∷ Answered 900 46 (Through None) ∷ Answered 400 50 (Through None) ∷ []
 

@@ -3,8 +3,8 @@ use Rattle.std.specs.Prelude.{ℕ, Bool, ◌+◌, ◌<◌, ◌≤◌}
 use Rattle.bridge_cycle.specs.Fits.{Fits, IsFirstFit}
 use Rattle.bridge_groups.specs.declared.fit_runs.FitRun.{FitRun}
 
--- Holds if `run` has all fits from the first fit at time `from` or later up to, not including, the next time without a fit. A fit is a time at which a
--- transmission of `occ` ns fits.
+-- Holds if `run` starts at the first fit at time `from` or later, and ends before the next time that isn't a fit. At a fit, a transmission
+-- of `occ` ns fits.
 pub record IsFitRun (opens : ℕ → Bool) (occ from : ℕ) (run : FitRun) : Type 0 where
   pub first : IsFirstFit opens occ from run.first
   pub some : 1 ≤ run.length

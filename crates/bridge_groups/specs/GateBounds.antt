@@ -22,7 +22,7 @@ use Rattle.bridge_bounds.specs.Bounds.{IsTightBound}
 use Rattle.bridge_groups.specs.GateIntervals.{gate_opens, last_opening, opening_work}
 use Rattle.bridge_groups.specs.IntervalWork.{IsIntervalBound}
 
--- Holds if each received frame has an SDU of at least `k` octets.
+-- Holds if each received frame with a readable header has an SDU of at least `k` octets.
 abbrev pub HaveSdus : ℕ → List Event → Type 0
 HaveSdus k [] = Unit {0}
 HaveSdus k (Arrived a ∷ es) = ((h : Head) → parsed_head a.octets a.len ≡ Ok h → k ≤ h.sdu) × HaveSdus k es
@@ -61,7 +61,7 @@ pub record IsGateWorkBound {A : Type 0} (p : Plan A) (n q c k b : ℕ) : Type 0 
 abbrev pub IsLeastBound : {A : Type 0} → Plan A → ℕ → ℕ → ℕ → ℕ → Type 0
 IsLeastBound p n q c b = (a : ℕ) × IsTightBound p n q c a × ((b ≡ a) ⊎ (IsGateWorkBound p n q c 2 b × (b < a)))
 
--- Holds if `b` ns is a bound below `a` for frames of at least 60 octets. It follows from the octets that the stream gate passes. The SDUs
--- of these frames have at least 44 octets.
+-- Holds if `b` ns is a bound below `a` for frames of at least 60 octets, whose SDUs have at least 44 octets. It follows from the octets
+-- that the stream gate passes.
 abbrev pub IsPaddedBound : {A : Type 0} → Plan A → ℕ → ℕ → ℕ → ℕ → ℕ → Type 0
 IsPaddedBound p n q c a b = IsGateWorkBound p n q c 44 b × (b < a)

@@ -35,7 +35,8 @@ abbrev pub last_opening : Cyclic GateEntry → ℕ → ℕ
 last_opening l zero = 0
 last_opening l (suc t) = if is_open_turn (turn_by_time l (suc t)) && not (nat_eq (turn_end (turn_by_time l t)) (turn_end (turn_by_time l (suc t)))) then suc t else last_opening l t
 
--- The most transmission time in ns of the frames that pass in the interval of list `l` that contains time `z`.
+-- The most transmission time in ns of the frames that pass in the interval of list `l` that contains time `z`. Each `share` octets of SDUs
+-- take at most `least` ns.
 abbrev pub opening_work : Cyclic GateEntry → ℕ → ℕ → ℕ → ℕ
 opening_work l least share z = turn_work least share (turn_by_time l z)
 
@@ -51,19 +52,22 @@ pub record IsNextOpening (l : Cyclic GateEntry) (from : ℕ) (o : Opening) : Typ
   pub starts : IsTurnStart l o.start
   pub shut : (t : ℕ) → from ≤ t → t < o.start → gate_opens l t ≡ false
 
--- Holds if the work of the open interval at time `t` leaves by `t` + `b`, and at most `needed` ns after each later opening. Earlier work
--- left `carry` ns after the interval's start.
+-- Holds if the work of the open interval at time `t` leaves (LeavesBy) within `b` ns, and at most `needed` ns after each later opening.
+-- Earlier work left `carry` ns after this interval's start.
 pub record LeavesInTime (opens : ℕ → Bool) (occ least share : ℕ) (l : Cyclic GateEntry) (carry b needed t : ℕ) : Type 0 where
   pub in_time : LeavesBy opens occ least (opening_work l least share (last_opening l t)) (max (last_opening l t + carry) t) (t + b)
   pub clears : (u : ℕ) → t < last_opening l u → LeavesBy opens occ least (opening_work l least share (last_opening l t)) (max (last_opening l t + carry) t) (last_opening l u + needed)
 
--- Holds if `LeavesInTime` holds at each time from `from` to `until` - 1 at which the stream gate is open for at least one frame.
+-- Holds if `LeavesInTime` holds at each time from `from` to `until` - 1 at which the stream gate is open. Intervals with less than `least`
+-- ns of work don't count.
 abbrev pub LeaveInTime : (ℕ → Bool) → ℕ → ℕ → ℕ → Cyclic GateEntry → ℕ → ℕ → ℕ → ℕ → ℕ → Type 0
 LeaveInTime opens occ least share l carry b needed from until =
     (t : ℕ) → from ≤ t → t < until → gate_opens l t ≡ true → least ≤ opening_work l least share (last_opening l t) → LeavesInTime opens occ least share l carry b needed t
 
 -- Holds if the delays `d` cover open interval `o`. Its work leaves at most `d.longest` ns after its arrival, and at most `d.carry` ns after
 -- the next opening `next`.
+--
+-- Work of earlier intervals left `carry` ns after the start of `o`.
 abbrev pub AreCovered : (ℕ → Bool) → ℕ → ℕ → ℕ → Opening → ℕ → ℕ → GateDelays → Type 0
 AreCovered opens occ least share o next carry d =
     (t : ℕ) → o.start ≤ t → t < o.turn.end → least ≤ turn_work least share (Some o.turn)

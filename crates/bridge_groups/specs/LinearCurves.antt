@@ -6,15 +6,15 @@ use Rattle.bridge_groups.specs.declared.linear_curve.LinearCurve.{LinearCurve}
 abbrev pub curve_at : LinearCurve → ℕ → ℕ
 curve_at c w = (c.burst + c.rate * w) / c.unit
 
--- Holds if burst, rate and unit are within the ranges of a computation: a unit of 1 to 2^40, and a burst below 2^100. The rate is at most the unit,
--- so at most 1 ns of work arrives each ns.
+-- Holds if unit, burst and rate of the curve are in the ranges of a computation. The unit is 1 to 2^40, the burst at most 2^100, the rate
+-- at most the unit.
 pub record IsLinearCurve (c : LinearCurve) : Type 0 where
   pub unit_some : 1 ≤ c.unit
   pub unit_few : c.unit ≤ 2 ^ 40
   pub burst_few : c.burst ≤ 2 ^ 100
   pub rate_few : c.rate ≤ c.unit
 
--- The most frames that several policed streams send in any `w` ns: the sum of the streams' curves.
+-- The most frames that several metered filters pass in any `w` ns: the sum of the filters' curves.
 abbrev pub count_at : List LinearCurve → ℕ → ℕ
 count_at [] w = 0
 count_at (c ∷ cs) w = curve_at c w + count_at cs w

@@ -1,4 +1,4 @@
--- One list that stands for the stream gates of the filters that share a queue, and the delay bound by this list.
+-- One list merged from the stream gates of the filters that share a queue, and the delay bound by this list.
 use Rattle.std.specs.Prelude.{◌≡◌, ◌≤◌, ◌+◌, ℕ, Bool, true, min, unwrap_or, List, [], ◌∷◌, Some, fold, sum_by, nat_eq, if◌then◌else◌}
 use Rattle.std.specs.List.{list_any}
 use Rattle.std.specs.Map.{lookup}
@@ -34,13 +34,16 @@ first_end ls t until = fold (λ m l. min m (turn_end (turn_by_time l t))) until 
 abbrev pub entry_limit : GateEntry → ℕ
 entry_limit e = if e.lets then unwrap_or e.octets 0 else 0
 
--- Holds if the entries last from offset `from` to offset `until`, and each stands for all gates. An entry is open if a gate is open, has
--- the sum of their limits, and ends with the first interval.
+-- Holds if the entries fill the offsets from `from` to `until`. An entry is open if a gate is open, and ends at the latest with the first
+-- of the gates' intervals.
+--
+-- Its octet limit is at least the sum of the gates' limits.
 abbrev pub AreMergedEntries : List (Cyclic GateEntry) → List (GateEntry × ℕ) → ℕ → ℕ → Type 0
 AreMergedEntries ls [] from until = from ≡ until
 AreMergedEntries ls (e ∷ es) from until = (1 ≤ e.1) × (is_any_open ls from ≡ true → e.0.lets ≡ true) × (limit_sum ls from ≤ entry_limit e.0) × ((l : Cyclic GateEntry) → IsMember l ls → from + e.1 ≤ turn_end (turn_by_time l from)) × AreMergedEntries ls es (from + e.1) until
 
--- Holds if list `m` stands for the lists `ls` of several stream gates. While it is open, a gate changes only at one of its openings.
+-- Holds if list `m` covers the lists `ls`: it is open while a gate is open, with at least the sum of the limits. While `m` is open, gates
+-- change only at openings of `m`.
 pub record IsMergedList (ls : List (Cyclic GateEntry)) (m : Cyclic GateEntry) : Type 0 where
   pub lawful : IsLawful m
   pub opens : (t : ℕ) (l : Cyclic GateEntry) → IsMember l ls → gate_opens l t ≡ true → gate_opens m t ≡ true
@@ -62,8 +65,8 @@ AreGateLists p (g ∷ gs) [] = ⊥
 AreGateLists p [] (l ∷ ls) = ⊥
 AreGateLists p (g ∷ gs) (l ∷ ls) = IsGateList p g.1 l × AreGateLists p gs ls
 
--- Holds if `b` ns bounds the delays of the class-`c` queue at port `out` by its filters' stream gates. SDUs have at least `k` octets,
--- where `k` is 1 to 44.
+-- Holds if `b` ns bounds the delays of the class-`c` queue at port `out` by its filters' stream gates. SDUs have at least `k` octets; `k`
+-- is 1 to 44.
 pub record IsGatesBound {A : Type 0} (p : Plan A) (out : PortPlan A) (sharers : List (ℕ × FilterPlan)) (c k b : ℕ) : Type 0 where
   pub some : 1 ≤ k
   pub few : k ≤ 44

@@ -69,10 +69,8 @@ pub record IsSharedRoom {A : Type 0} (p : Plan A) (out : PortPlan A) (sharers : 
   pub metered : are_metered sharers ≡ true
   pub sufficient : IsSufficientRoom (lists_open out.list c) (transmission_time (longest_frame (longest_sdu sharers)) out.speed) (transmission_time 60 out.speed) (sharers_curve p sharers out.speed) (sharers_frame_limit p sharers) room
 
--- Holds if row `s` describes a shared queue: its delay bound, a sufficient capacity if one is known, and the capacity
--- that it has. If `s.is_metered` is true, the meters give a bound.
---
--- Further bounds follow from the stream gates.
+-- Holds if row `s` describes a shared queue: delay bound, capacity, and a sufficient capacity if one is known. If `s.is_metered` is true,
+-- the meters give a bound. Further bounds follow from the stream gates.
 pub record IsSharedQueue {A : Type 0} (p : Plan A) (s : SharedQueue) : Type 0 where
   pub out : PortPlan A
   pub at : find_port p.ports s.port ≡ Some out

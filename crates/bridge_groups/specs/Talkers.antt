@@ -27,7 +27,7 @@ pub record IsConformingFrame {A : Type 0} (p : Plan A) (n most burst rate : ℕ)
   pub form : (c : FilterInput) → arrival_input p a ≡ Some c → (c.dei ≡ false) × (c.sdu ≤ most)
   pub octets : (u w : ℕ) → a.at ≡ u + w → recent_own_octets p n u (Arrived a ∷ es) * octet_units ≤ burst * octet_units + rate * w
 
--- Holds if each frame of filter `n` conforms to the burst and the rate.
+-- Holds if each frame of filter `n` conforms to the SDU limit `most`, the burst and the rate (IsConformingFrame).
 abbrev pub IsConformingTalker : {A : Type 0} → Plan A → ℕ → ℕ → ℕ → ℕ → List Event → Type 0
 IsConformingTalker p n most burst rate [] = Unit {0}
 IsConformingTalker p n most burst rate (Arrived a ∷ es) = (is_filter_number n (arrival_filter p a) ≡ true → IsConformingFrame p n most burst rate a es) × IsConformingTalker p n most burst rate es

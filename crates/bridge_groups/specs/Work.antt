@@ -14,8 +14,8 @@ IsNthFit opens occ (suc n) u v = (w : ℕ) × IsNthFit opens occ n u w × IsFirs
 abbrev pub HaveBoundedTimes : {X : Type 0} → PortRules X → ℕ → ℕ → ℕ → List (Copy X) → Type 0
 HaveBoundedTimes r c least occ xs = (y : Copy _) → IsMember y xs → (y.class ≡ c) × (least ≤ r.occ y.item) × (r.occ y.item ≤ occ)
 
--- Holds if a bound that counts fits of `occ` ns may count `cost` ns for a frame of `on` ns. From any time until fit
--- number `cost - on` after it, the frame fits at least once.
+-- Holds if a bound that counts fits of `occ` ns may count `cost` ns for a frame of `on` ns. From any time until fit number `cost - on`
+-- after it, the frame fits.
 pub record IsSufficientCost (opens : ℕ → Bool) (occ least on cost : ℕ) : Type 0 where
   pub least_time : least ≤ on
   pub covers_time : on ≤ cost
@@ -27,7 +27,7 @@ module _ {X : Type 0} where
   abbrev pub HaveSufficientCosts : PortRules X → (X → ℕ) → ℕ → ℕ → ℕ → List (Copy X) → Type 0
   HaveSufficientCosts r cost c least occ xs = (y : Copy X) → IsMember y xs → (y.class ≡ c) × IsSufficientCost (r.opens c) occ least (r.occ y.item) (cost y.item)
 
-  -- The total cost of the copies that were offered at time `u` or later.
+  -- The total cost in ns of the copies that were offered at time `u` or later. `cost` gives the cost of an item.
   abbrev pub recent_cost : (X → ℕ) → ℕ → List (Copy X) → ℕ
   recent_cost cost u [] = 0
   recent_cost cost u (x ∷ xs) = (if nat_le u x.at then cost x.item else 0) + recent_cost cost u xs
@@ -58,8 +58,8 @@ module _ {X : Type 0} where
   HasCountCurve many [] = Unit {0}
   HasCountCurve many (x ∷ xs) = ((u w : ℕ) → x.at ≡ u + w → count_recent_copies u (x ∷ xs) ≤ many w) × HasCountCurve many xs
 
--- Holds if `b` ns is the delay bound of frames that arrive in the `w` ns from time `u`. With work of `curve w` ns, the
--- newest frame starts by fit `curve w - least`.
+-- Holds if `b` ns is the delay bound of frames that arrive in the `w` ns from time `u`. With work of `curve w` ns, the newest frame starts
+-- by fit `curve w - least`.
 abbrev pub IsSpanBound : (ℕ → Bool) → ℕ → ℕ → (ℕ → ℕ) → ℕ → ℕ → ℕ → Type 0
 IsSpanBound opens occ least curve b u w = (v : ℕ) × IsNthFit opens occ (curve w - least) u v × (v + least ≤ u + w + b)
 
@@ -76,6 +76,7 @@ pub record IsSufficientRoom (opens : ℕ → Bool) (occ least : ℕ) (curve many
   pub has_place : 1 ≤ room
   pub drains : (u w : ℕ) → (room + 1) * least ≤ curve w → room + 1 ≤ many w → (v : ℕ) × IsNthFit opens occ (curve w - (room + 1) * least) u v × (v < u + w)
 
--- Holds if each cycle of `cycle` ns has `n` fits. The fit with number `k` + `n` begins exactly one cycle after the fit with number `k`.
+-- Holds if each cycle of `cycle` ns has `n` fits of `occ` ns. The fit with number `k` + `n` begins exactly one cycle after the fit with
+-- number `k`.
 abbrev pub HasFitsPerCycle : (ℕ → Bool) → ℕ → ℕ → ℕ → Type 0
 HasFitsPerCycle opens occ cycle n = (k u v : ℕ) → IsNthFit opens occ k u v → IsNthFit opens occ (k + n) u (v + cycle)

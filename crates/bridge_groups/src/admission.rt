@@ -1,4 +1,4 @@
-//! The test whether a filter admits a conforming talker: each of its frames then passes.
+//! Tests whether a filter admits a conforming talker: then each frame of the talker passes.
 ghost use Rattle.std.specs.Prelude.{◌≡◌, nat_eq};
 ghost use Rattle.std.specs.Map.{lookup};
 ghost use Rattle.bridge_semantics.specs.Events.{plan_police};
@@ -35,7 +35,8 @@ fn is_open_schedule<A: Allocator + Copy>(schedule: &Schedule<A>) -> bool
     }
 }
 
-/// Whether the stream gate `gate` is open at each time and has no octet limit. `admits_talker` and explanations call it.
+/// Whether the stream gate `gate` is open at each time and has no octet limit. `admits_talker` and `put_limited_reason` of `net_latency`
+/// call it.
 pub fn is_open_gate<A: Allocator + Copy>(plan: &Plan<A>, gate: u32) -> bool
     ensures { result ≡ spec.is_open_gate (lookup (nat_eq gate) plan.now.gates) }
 {
@@ -83,8 +84,8 @@ fn has_tokens(tokens: Option<(u64, u64)>, burst: u64, rate: u64) -> bool
     }
 }
 
-/// Whether a filter passes each frame of any talker with SDUs of at most `most` octets, `burst` metered octets at once and `rate` bit/s.
-/// The stream gate must be always open without octet limits.
+/// Whether a filter's settings admit every talker that keeps three limits: SDUs of at most `most` octets, bursts of `burst` metered octets,
+/// and `rate` bit/s. The stream gate must always be open without octet limits.
 ///
 /// `admits_row` of `net_latency` calls it.
 pub fn admits_talker<A: Allocator + Copy>(

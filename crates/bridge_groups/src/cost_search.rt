@@ -1,5 +1,8 @@
-//! Delay bound of a shared queue by costs. Fits are counted for frames shorter than the longest, so less time is lost at the end of each
-//! window; a longer frame costs more.
+//! Delay bounds of a shared queue by costs. The search counts fits for a transmission time `fit` below the longest, so less time is lost at
+//! the end of each window.
+//!
+//! A fit is a time at which a transmission fits. A frame that needs more than `fit` ns counts for more than its transmission time: this is
+//! its cost.
 ghost use Rattle.std.specs.Prelude.{◌≡◌, ◌⊎◌, ◌≤◌, ◌<◌, ℕ, IfSome, Some, length, false, true};
 ghost use Rattle.bridge_cycle.specs.Cyclic.{IsLawful};
 ghost use Rattle.bridge_frame.specs.Link.{transmission_time};
@@ -17,10 +20,12 @@ use bridge_filter::FilterPlan;
 use bridge_frame::{Speed, occupation};
 use std::alloc::Allocator;
 
-/// Largest number of lengths of fits that the search tries.
+/// Largest number of values of `fit` that `list_cost_bound` tries.
 const MOST_LENGTHS: u64 = 4;
 
-/// Whether each run of fits of `fit` ns starts with a fit of `long` ns. Returns false for some lists if `start` isn't a closed time.
+/// Whether each run of fits of `fit` ns starts at a time at which a transmission of `long` ns fits. If the class is open at `start`, the
+/// answer can be false by mistake.
+///
 /// `fit_bound` calls it.
 fn has_long_starts<A: Allocator + Copy>(
     list: &CyclicList<u8, A>,
@@ -50,8 +55,8 @@ fn has_long_starts<A: Allocator + Copy>(
     true
 }
 
-/// Returns the least length in ns of fits for which frames with SDUs of `sdu` octets cost no more per octet than shortest frames. For this
-/// length, the bound is mostly least. `list_cost_bound` calls it.
+/// Returns the least `fit` in ns for which frames with SDUs of `sdu` octets cost no more per octet than shortest frames. With this `fit`,
+/// the bound is mostly least. `list_cost_bound` calls it.
 fn plain_fit(speed: Speed, sdu: u32) -> u64
     ensures least { transmission_time 60 speed ≤ result }
 {
@@ -65,7 +70,7 @@ fn plain_fit(speed: Speed, sdu: u32) -> u64
 
 /// Returns the greatest `max_sdu` of the filters, in octets, that is at most `most`; 0 if there is none.
 ///
-/// `list_cost_bound` takes it as the next frame size of its search, with half of the last size as `most`.
+/// `list_cost_bound` calls it with half of the last frame size as `most`, and continues with the result.
 fn next_search_sdu(filters: &[(u32, FilterPlan)], most: u32) -> u32
     ensures { result ≤ most }
 {
@@ -79,7 +84,8 @@ fn next_search_sdu(filters: &[(u32, FilterPlan)], most: u32) -> u32
     longest
 }
 
-/// Returns the lesser of two delay bounds in ns, or the known one. `list_cost_bound` calls it.
+/// Returns the lesser of two delay bounds in ns. If only one is known, returns that one; if none is known, `None`. `list_cost_bound` calls
+/// it.
 fn lesser_known(one: Option<u64>, other: Option<u64>) -> Option<u64>
     ensures { (result ≡ one) ⊎ (result ≡ other) }
 {
@@ -90,10 +96,10 @@ fn lesser_known(one: Option<u64>, other: Option<u64>) -> Option<u64>
     }
 }
 
-/// Returns the delay bound in ns that counts fits of `fit` ns. The class is closed at time `start`. Returns `None` if a run of fits starts
-/// without a fit of `long` ns.
+/// Returns the delay bound in ns of a shared queue by costs, from fits of `fit` ns. The class is closed at time `start`.
 ///
-/// `list_cost_bound` calls it.
+/// Returns `None` if a run of fits starts at a time at which `long` ns don't fit, or if the costs give no bound. `list_cost_bound` calls
+/// it.
 fn fit_bound<A: Allocator + Copy>(
     plan: &Plan<A>,
     sharers: &[(u32, FilterPlan)],
@@ -122,9 +128,9 @@ fn fit_bound<A: Allocator + Copy>(
 }
 
 /// Returns the least delay bound in ns that the search finds by costs. Frames have SDUs of at most `sdu` octets, and need at most `long`
-/// ns. Returns `None` if the class is always open.
+/// ns.
 ///
-/// `lists_cost_bound` calls it.
+/// Returns `None` if the class is always open, or if the search finds no bound. `lists_cost_bound` calls it.
 fn list_cost_bound<A: Allocator + Copy>(
     plan: &Plan<A>,
     sharers: &[(u32, FilterPlan)],
@@ -159,8 +165,10 @@ fn list_cost_bound<A: Allocator + Copy>(
     least
 }
 
-/// Returns the least delay bound in ns that the search finds by costs, for a port with one gate control list. `None` over a schedule
-/// change. `curve_figures` calls it.
+/// Returns the least delay bound in ns that the search finds by costs, for a port with one gate control list. Frames have SDUs of at most
+/// `sdu` octets, and need at most `long` ns.
+///
+/// Returns `None` for a schedule change, for a class that is always open, or if the search finds no bound. `curve_figures` calls it.
 pub(crate) fn lists_cost_bound<A: Allocator + Copy>(
     plan: &Plan<A>,
     sharers: &[(u32, FilterPlan)],

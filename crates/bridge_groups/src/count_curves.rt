@@ -1,4 +1,4 @@
-//! How many frames several policed streams can send together: the sum of an arrival curve of each stream.
+//! Counts the frames that the meters of several filters can pass together: the sum of one curve for each filter.
 ghost use Rattle.std.specs.Prelude.{◌≡◌, ℕ, All, true, ◌↔◌, ◌<◌, ◌≤◌, length};
 ghost use Rattle.bridge_groups.specs.LinearCurves.{IsCountCurve, count_at};
 
@@ -7,8 +7,7 @@ use crate::linear_curve::LinearCurve;
 /// Longest span in ns that the search of `first_frames_time` examines, about 36 minutes.
 const END_OF_COUNTS: u64 = 2_199_023_255_552;
 
-/// Whether the curves `counts` together allow at least `frames` frames in `w` ns. The search in `first_frames_time` tests lengths of spans
-/// with it.
+/// Whether the curves `counts` together allow at least `frames` frames in `w` ns. `first_frames_time` calls it.
 fn has_frames(counts: &[LinearCurve], w: u64, frames: u64) -> bool
     requires counts { All IsCountCurve counts.now }
     requires time { w ≤ END_OF_COUNTS }

@@ -33,10 +33,11 @@ pub(crate) fn find_closed<A: Allocator + Copy>(list: &CyclicList<u8, A>, class: 
     None
 }
 
-/// Returns a bound in ns of the delays in all spans that last at least `shortest` ns, whenever they begin. Returns `None` if the list has
-/// too many runs of fits.
+/// Returns a bound in ns of the delays over all spans of at least `shortest` ns, whenever they begin. `span_search.rt` defines spans;
+/// `SpanLimits` explains `work`.
 ///
-/// `windows_delay_bound` and `is_sufficient` call it.
+/// Each cycle has `per_cycle` fits for `occ` ns in `class`. Returns `None` if the list has too many runs of fits. `windows_delay_bound` and
+/// `is_sufficient` call it.
 pub(crate) fn all_spans_bound<A: Allocator + Copy>(
     list: &CyclicList<u8, A>,
     class: u8,
@@ -74,8 +75,9 @@ pub(crate) fn all_spans_bound<A: Allocator + Copy>(
     Some(bound)
 }
 
-/// Returns the result of `list_delay_bound` for a class that is closed at some time of each cycle. Returns `None` if more work arrives in
-/// the long run than fits.
+/// Returns the result of `list_delay_bound` for a class that is closed at some time of each cycle.
+///
+/// Returns `None` if more work arrives in the long run than fits, or if the list has too many runs of fits.
 fn windows_delay_bound<A: Allocator + Copy>(
     list: &CyclicList<u8, A>,
     class: u8,
@@ -102,13 +104,12 @@ fn windows_delay_bound<A: Allocator + Copy>(
     all_spans_bound(list, class, occ, curve, per_cycle, least, 0)
 }
 
-/// Returns a delay bound in ns of a queue that has its link to itself while `class` is open. Its frames have transmission times from `least`
-/// to `occ` ns and the arrival curve `curve`.
+/// Returns a delay bound in ns of a queue that has its link to itself while `class` is open. Its frames have transmission times from
+/// `least` to `occ` ns and the arrival curve `curve`.
 ///
-/// Returns `None` if more work arrives in the long run than fits into the windows. Also if no frame of `least` ns, or more than
-/// `LARGEST_BURST` ns of work, can arrive at once.
+/// Returns `None` if too much work arrives: in the long run more than fits into the windows, or at once more than `LARGEST_BURST` ns.
 ///
-/// `fit_bound`, `change_bound` and `lists_bound` call it.
+/// It also returns `None` if no frame of `least` ns can arrive at once. `fit_bound`, `change_bound` and `lists_bound` call it.
 pub fn list_delay_bound<A: Allocator + Copy>(
     list: &CyclicList<u8, A>,
     class: u8,

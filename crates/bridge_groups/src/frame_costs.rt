@@ -1,5 +1,5 @@
-//! Cost curves of the frames that the meters of several filters let pass. Bounds by costs count fits of `fit` ns, and a longer frame costs
-//! more than its transmission time.
+//! Cost curves of the frames that the meters of several filters let pass. Bounds by costs count fits of `fit` ns: a frame that needs more
+//! than `fit` ns costs more than its transmission time.
 ghost use Rattle.std.specs.Prelude.{◌≡◌, ◌≤◌, ◌*◌, ℕ, IfSome, length};
 ghost use Rattle.bridge_frame.specs.Link.{transmission_time};
 ghost use Rattle.bridge_check.specs.Windows.{longest_frame};
@@ -17,7 +17,7 @@ use bridge_limits::LONGEST_FRAME;
 use bridge_meter::UNITS_PER_OCTET;
 use std::alloc::Allocator;
 
-/// Parts of a ns in which costs of octets are given. A greater number gives sharper bounds, but the unit of a curve is at most 2^40.
+/// Number of parts of a ns in which costs are given. A greater number gives sharper bounds, but the unit of a curve is at most 2^40.
 const COST_PARTS: u64 = 128;
 
 /// Returns the margin in ns that covers the rounding of two transmission times. `plain_fit` and `octet_cost` call it.
@@ -31,7 +31,8 @@ pub(crate) fn rounding_margin(speed: Speed) -> u64
     }
 }
 
-/// Returns the length in octets of the longest frame with an SDU of `sdu` octets. `plain_fit` and `octet_cost` call it.
+/// Returns the length in octets of the longest frame with an SDU of `sdu` octets, at most `LONGEST_FRAME`. `plain_fit` and `octet_cost`
+/// call it.
 pub(crate) fn longest_octets(sdu: u32) -> u32
     ensures { result ≡ longest_frame sdu }
 {
@@ -51,7 +52,8 @@ fn octet_cost(fit: u64, speed: Speed, sdu: u32) -> u64
     long.max(2 * occupation(60, speed))
 }
 
-/// Returns the costs in 128ths of a ns of the filters' bursts, and of their rates for each second. `sharers_cost_curve` calls it.
+/// Returns the costs of the filters' bursts (in octets) and of their rates (in bit/s), each summed over the filters. A filter's octet costs
+/// `octet_cost`, in 128ths of a ns. `sharers_cost_curve` calls it.
 fn cost_sums<A: Allocator + Copy>(
     plan: &Plan<A>,
     sharers: &[(u32, FilterPlan)],

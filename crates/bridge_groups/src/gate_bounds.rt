@@ -41,9 +41,10 @@ pub(crate) fn are_limited(entries: &[(GateEntry, u64)]) -> bool
         .all(|entry| !entry.0.lets || entry.0.octets.is_some())
 }
 
-/// Returns the delay bound in ns of a queue under gate control lists, by the list of a stream gate. Transmissions take `least` to `occ` ns.
+/// Returns the delay bound in ns of a queue under gate control lists, by the list of a stream gate. Transmissions take `least` to `occ` ns;
+/// SDUs have at least `fewest` octets.
 ///
-/// Returns `None` for a schedule change, or if no bound is found. `schedule_bound` calls it.
+/// Returns `None` for a schedule change, or if no bound is found. `port_gate_bound` calls it.
 fn lists_gate_bound<A: Allocator + Copy>(
     lists: &Egress<A>,
     class: u8,
@@ -98,7 +99,8 @@ pub(crate) fn port_gate_bound<A: Allocator + Copy>(
 
 /// Returns the delay bound in ns of a queue at `port`, by the stream gate's schedule. SDUs have `fewest` to `sdu` octets.
 ///
-/// Returns `None` unless gate and port have one list each and all open entries have octet limits. `reached_gate_bound` calls it.
+/// Returns `None` if an open entry has no octet limit, if gate or port doesn't have exactly one list, or if no bound is found.
+/// `reached_gate_bound` calls it.
 fn schedule_bound<A: Allocator + Copy>(
     schedule: &Schedule<A>,
     port: &PortPlan<A>,
@@ -121,7 +123,9 @@ fn schedule_bound<A: Allocator + Copy>(
     port_gate_bound(gate, port, class, sdu, fewest)
 }
 
-/// Returns the delay bound in ns of a queue that protected filter `number` can reach, by its stream gate; `None` if no bound is found.
+/// Returns the delay bound in ns of a queue that protected filter `number` can reach, by its stream gate. SDUs have at least `fewest`
+/// octets. Returns `None` if no bound is found.
+///
 /// `gate_work_bound` calls it after its own tests.
 fn reached_gate_bound<A: Allocator + Copy>(
     plan: &Plan<A>,
@@ -146,13 +150,13 @@ fn reached_gate_bound<A: Allocator + Copy>(
     schedule_bound(&gate.schedule, out, class, sdu, fewest)
 }
 
-/// Returns the delay bound in ns of a protected filter's reachable queue, by the openings and octet limits of its stream gate. Allocates no
-/// memory.
+/// Returns the delay bound in ns of protected filter `number` in its reachable queue of `class` at `port`. It follows from the openings and
+/// octet limits of the stream gate. Allocates no memory.
 ///
 /// Every frame must have an SDU of at least `fewest` octets: `CAPTURED_SDU` for any capture, `PADDED_SDU` for padded frames.
 ///
-/// Returns `None` for any other queue or filter, for a schedule change, or if an open entry has no octet limit. Returns `None` also if more
-/// frames pass than fit into the windows.
+/// Returns `None` for any other queue or filter, for a schedule change, or if an open entry has no octet limit. It also returns `None` if
+/// the search finds no bound.
 ///
 /// `least_bound` and `padded_bound` call it.
 pub fn gate_work_bound<A: Allocator + Copy>(

@@ -13,7 +13,7 @@ use bridge_filter::FilterPlan;
 use bridge_limits::NoMemory;
 use std::alloc::Allocator;
 
-/// Delay bounds in ns of a shared queue by stream gates; `None` if none is known.
+/// Delay bounds in ns of a shared queue by stream gates. A bound is `None` if the search finds none.
 #[derive(Clone, Copy)]
 pub(crate) struct GateFigures {
     /// Bound for any capture: SDUs have at least `CAPTURED_SDU` octets.
@@ -24,7 +24,7 @@ pub(crate) struct GateFigures {
 
 /// Returns the delay bounds of a queue by the stream gates of `sharers`, whose largest SDU has `sdu` octets. `shared_queue` calls it.
 ///
-/// Both are `None` if one list can't stand for all gates (`merged_list`), or if a gate has no list whose open entries have octet limits.
+/// Both bounds are `None` if `gate_lists` finds no list for a gate, or `merged_list` can't merge the lists.
 pub(crate) fn gate_figures<A: Allocator + Copy>(
     alloc: A,
     plan: &Plan<A>,

@@ -13,7 +13,7 @@ use bridge_filter::FilterPlan;
 use bridge_limits::NoMemory;
 use std::alloc::Allocator;
 
-/// Number of queues of a bridge with 16 ports: one for each class.
+/// Number of queues of a bridge with 16 ports: 8 for each port, one for each class.
 const QUEUES: u8 = 128;
 
 /// Whether a filter of the group can reach the queue of class `class` at `port`. `reaches` has the reachable queues of each filter, in the
@@ -40,7 +40,7 @@ fn is_group_queue<A: Allocator + Copy>(
     false
 }
 
-/// Returns a filter's group if it has one and its number is at least `from`, otherwise `None`. `least_group` ignores lower groups.
+/// Returns a filter's group if it has one and its number is at least `from`, otherwise `None`. `least_group` calls it.
 fn group_from(from: u64, group: Option<u32>) -> Option<u32>
     ensures { result ≡ spec.group_from from group }
 {
@@ -127,7 +127,7 @@ fn put_group_rows<A: Allocator + Copy>(
     Ok(())
 }
 
-/// Returns the number after a group's number. `put_all_rows` looks for the next group from it.
+/// Returns `group` + 1 without overflow. `put_all_rows` looks for the next group from this number on.
 fn number_after(group: u32) -> u64
     ensures next { result ≡ group + 1 }
     ensures few { result ≤ 4_294_967_296 }

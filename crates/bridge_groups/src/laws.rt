@@ -66,8 +66,8 @@ pub fn queue_has_meter_curves<A: Allocator + Copy>()
         × HasCountCurve (sharers_frame_limit p sharers) (class_copies c (lists q)) }
 {}
 
-/// Each copy that starts leaves a queue of the group at most `b` ns after its arrival, whatever any talker sends. `b` is the delay bound of
-/// the meters' curve.
+/// Each copy that starts leaves a queue of the group at most `b` ns after its arrival, whatever any talker sends. Here `b` is a delay bound
+/// for the curve of the sharers' meters.
 ///
 /// Bounds of shared queues by meters rest on it.
 pub fn group_leaves_in_time<A: Allocator + Copy>()
@@ -109,8 +109,10 @@ pub fn group_queue_is_never_full<A: Allocator + Copy>()
         → x.fate ≢ Full }
 {}
 
-/// If a filter admits a conforming talker, each of its frames leaves each egress port within the delay bound `b`, whatever all others send.
-/// The capacities are sufficient. docs/DELAYS.md cites it.
+/// If a filter admits a conforming talker, each frame of the talker leaves each of its egress ports within `b` ns. Other talkers may send
+/// anything.
+///
+/// Each queue that the filter can reach must have the delay bound `b` and enough capacity. docs/DELAYS.md cites it.
 pub fn conforming_frame_is_delivered<A: Allocator + Copy>()
     ensures { (p : Plan A) (group : ℕ) (n m most burst rate q set sdu b : ℕ) (f : FilterPlan)
         (sharers : ℕ → List (ℕ × FilterPlan)) (out : PortPlan A) (a : Arrival)
@@ -146,10 +148,10 @@ pub fn tested_filter_admits_talker<A: Allocator + Copy>()
         → (m : ℕ) × AdmitsTalker p f m most burst rate }
 {}
 
-/// If a filter admits a conforming talker, each of its frames leaves each egress port within the bound of a shared queue. Other talkers may
-/// send anything.
+/// If a filter admits a conforming talker, each frame of the talker leaves each of its egress ports within the bound of a shared queue.
+/// Other talkers may send anything.
 ///
-/// Each shared queue that it can reach there has enough capacity. Delays of limited talkers rest on it.
+/// Each shared queue that the filter can reach must have enough capacity. Delays of limited talkers rest on it.
 pub fn conforming_frame_leaves_shared_queue<A: Allocator + Copy>()
     ensures { (p : Plan A) (group n m most burst rate q set : ℕ) (f : FilterPlan)
         (out : PortPlan A) (a : Arrival) (newer older : List Event) (c : FilterInput)
@@ -171,7 +173,7 @@ pub fn conforming_frame_leaves_shared_queue<A: Allocator + Copy>()
         (count_filter_frames p n older + 1) (enough k reach).row.bound) × (d.copy.class ≡ k) × (a.at ≤ d.start) }
 {}
 
-/// If a filter admits a conforming talker, each of its frames has the verdict `Pass`. Delays of limited talkers rest on it.
+/// If a filter admits a conforming talker, each frame of the talker has the verdict `Pass`. Delays of limited talkers rest on it.
 pub fn conforming_frames_pass<A: Allocator + Copy>()
     ensures { (p : Plan A) (group n m most burst rate : ℕ) (f : FilterPlan) (es : List Event)
         → IsPlan p
@@ -183,8 +185,8 @@ pub fn conforming_frames_pass<A: Allocator + Copy>()
         → list_all passes (filter_verdicts n (police_steps p es)) ≡ true }
 {}
 
-/// In any `w` ns a stream gate with octet limits passes at most the octets of the intervals that overlap these `w` ns. Curves of stream
-/// gates rest on it.
+/// In any `w` ns, a stream gate with octet limits passes at most the sum of the limits of the intervals that overlap this time. Curves of
+/// stream gates rest on it.
 pub fn gate_limits_octets()
     ensures { (r : GateRules) (u w : ℕ) (es : List GateEvent)
         → HasOctetLimits r.turn_at
@@ -211,8 +213,10 @@ pub fn filter_has_curve<A: Allocator + Copy>()
         → HasFilterCurve p out c n (gate_curve octets out.speed) }
 {}
 
-/// If each sharer has an arrival curve by its meter or gate, copies leave in time (`done`). A sufficient capacity drops none as full
-/// (`room`). Bounds of shared queues rest on it.
+/// If each sharer has an arrival curve, each copy that starts leaves within the bound `b` of their sum (`done`). If the capacity suffices
+/// for this sum, no copy is dropped as full (`room`).
+///
+/// All frames must have at least 60 octets. Bounds of shared queues rest on it.
 pub fn group_leaves_in_time_by_curves<A: Allocator + Copy>()
     ensures done { (p : Plan A) (group : ℕ) (sharers : List (ℕ × FilterPlan)) (curves : ℕ → ℕ → ℕ) (q c sdu b s : ℕ)
         (out : PortPlan A) (es : List Event) (moments : ℕ → ℕ) (lists : ℕ → List (Copy CarriedFrame))
@@ -252,7 +256,7 @@ pub fn group_leaves_in_time_by_curves<A: Allocator + Copy>()
         → x.fate ≢ Full }
 {}
 
-/// Each copy that starts leaves a queue of the group within the bound by capacity, also without meters. The lesser of this bound and the
+/// Each copy that starts leaves a queue of the group within the bound by capacity, also without meters. So the lesser of this bound and the
 /// bound by curves holds.
 ///
 /// Bounds of shared queues rest on it.
@@ -275,8 +279,10 @@ pub fn group_leaves_in_time_by_room<A: Allocator + Copy>()
         ≤ x.at + (transmission_time (longest_frame sdu) out.speed - 1) + d }
 {}
 
-/// A filter with a meter has a cost curve by the greatest cost of an octet (`meter`). If the sharers have cost curves, copies leave in time
-/// (`done`). Bounds of shared queues rest on it.
+/// A filter with a meter has a cost curve by the greatest cost of an octet (`meter`). If each sharer has a cost curve, each copy that
+/// starts leaves within `b` ns (`done`).
+///
+/// For `done`, the longest frame must fit at the start of each run of fits of `fit` ns. Bounds of shared queues rest on it.
 pub fn group_leaves_in_time_by_cost<A: Allocator + Copy>()
     ensures meter { (p : Plan A) (out : PortPlan A) (c n m sdu num den : ℕ) (f : FilterPlan) (cost : ℕ → ℕ)
         → IsPlan p
@@ -311,10 +317,10 @@ pub fn group_leaves_in_time_by_cost<A: Allocator + Copy>()
         → s + transmission_time x.item.len out.speed ≤ x.at + b }
 {}
 
-/// If a port's lists change, copies leave a shared queue within a sum of times. It has the old list's bound `b1`, a longest frame, and the
-/// new list's bound `b2` for a shifted curve.
+/// If a port's lists change, each copy that starts leaves a shared queue within `b1`, a longest transmission time, and `b2` together. `b1`
+/// is the old list's bound, `b2` the new list's bound.
 ///
-/// Bounds of shared queues rest on it.
+/// `b2` allows for all work of the first two times arriving at once. Bounds of shared queues rest on it.
 pub fn group_leaves_in_time_over_change<A: Allocator + Copy>()
     ensures { (p : Plan A) (group : ℕ) (sharers : List (ℕ × FilterPlan)) (q c sdu b1 b2 s : ℕ) (out : PortPlan A)
         (j : Joined ℕ) (es : List Event) (moments : ℕ → ℕ) (lists : ℕ → List (Copy CarriedFrame))
@@ -342,10 +348,10 @@ pub fn group_leaves_in_time_over_change<A: Allocator + Copy>()
         ≤ x.at + ((b1 + transmission_time (longest_frame sdu) out.speed) + b2) }
 {}
 
-/// Frames of a filter leave a shared queue with the meter's burst and rate. The burst grows by the octets that the rate gives in the
-/// queue's greatest difference of delays.
+/// Departures of a filter from a shared queue keep the rate of its meter. The burst grows by the octets that the rate gives in the queue's
+/// greatest difference of delays.
 ///
-/// So the next hop's meters can be dimensioned.
+/// So a planner can dimension the meters of the next hop.
 pub fn departures_conform<A: Allocator + Copy>()
     ensures { (p : Plan A) (group : ℕ) (sharers : List (ℕ × FilterPlan)) (q c sdu n m b : ℕ) (f : FilterPlan)
         (out : PortPlan A) (es : List Event) (moments : ℕ → ℕ) (lists : ℕ → List (Copy CarriedFrame))
@@ -435,8 +441,9 @@ pub fn frames_have_sdus()
     ensures padded { (es : List Event) → HasNoRunts es → HaveSdus 44 es }
 {}
 
-/// Each copy that starts leaves a shared queue within the bounds that `bounds` prints, which know the filters' stream gates. Clauses: SDUs
-/// of at least two octets (`captured`), frames of at least 60 octets (`padded`).
+/// Each copy that starts leaves a shared queue within the bounds that `bounds` prints, which include the bounds by stream gates.
+///
+/// Clauses: SDUs of at least two octets (`captured`), frames of at least 60 octets (`padded`).
 pub fn shared_queue_leaves_in_time_by_gates<A: Allocator + Copy>()
     ensures captured { (p : Plan A) (s : SharedQueue) (is : IsSharedQueue p s) (start : ℕ) (es : List Event)
         (moments : ℕ → ℕ) (lists : ℕ → List (Copy CarriedFrame)) (x : Copy CarriedFrame)

@@ -10,10 +10,13 @@ use bridge_bounds::{is_coarse, tight_queue_bound};
 use bridge_check::Accepted;
 use std::alloc::Allocator;
 
-/// Returns the lesser of two bounds of a queue in ns: `tight`, and the bound from the octets that the filter's stream gate passes.
+/// Returns the lesser of two bounds in ns of filter `number` in the queue of `class` at `port`. They are `tight`, and the bound from the
+/// octets that the filter's stream gate passes.
 ///
-/// Returns `tight` if the lists of stream gate and port have no common cycle (`coarse`). The search for the other bound would then take too
-/// long. `least_queue_bound` and `put_tight_bound` of `net_latency` call it.
+/// If `coarse`, the lists of stream gate and port have no common cycle. The search for the second bound would then take too long, and the
+/// function returns `tight`.
+///
+/// `least_queue_bound` and `put_tight_bound` of `net_latency` call it.
 pub fn least_bound<A: Allocator + Copy>(
     accepted: &Accepted<A>,
     number: u32,
@@ -37,10 +40,11 @@ pub fn least_bound<A: Allocator + Copy>(
     }
 }
 
-/// Returns a queue's bound in ns for frames of at least 60 octets: it follows from the octets that the filter's stream gate passes.
+/// Returns the bound in ns of filter `number` in the queue of `class` at `port`, for frames of at least 60 octets. It follows from the
+/// octets that the filter's stream gate passes.
 ///
-/// Returns `None` if this bound isn't below `bound`, or if no frame of this length passes. Also if the lists of stream gate and port have
-/// no common cycle (`coarse`).
+/// Returns `None` if this bound isn't below `bound`, or if no frame of this length passes. It also returns `None` if the lists of stream
+/// gate and port have no common cycle (`coarse`).
 ///
 /// `put_tight_bound` of `net_latency` and `put_gate_bounds` of `show_lint` call it.
 pub fn padded_bound<A: Allocator + Copy>(
@@ -65,7 +69,8 @@ pub fn padded_bound<A: Allocator + Copy>(
     }
 }
 
-/// Returns the least known bound of a queue in ns for any capture: the bound that `bounds` prints. Allocates no memory.
+/// Returns the least known bound in ns of filter `number` in the queue of `class` at `port`, for any capture: the bound that `bounds`
+/// prints. Allocates no memory.
 ///
 /// Returns `None` exactly if the filter is missing or unprotected, or can't reach the queue. Functions of `net_latency`, `show_lint`,
 /// `show_picture` and other crates call it.

@@ -12,8 +12,10 @@ use std::alloc::Allocator;
 /// Largest number of runs of fits that a search visits.
 pub(crate) const MOST_FIT_RUNS: u64 = 512;
 
-/// Returns fit number `number`, counted from 0, at time `from` or later. Returns `None` if too many runs of fits come before it.
-/// `leave_time` calls it.
+/// Returns the time in ns of fit number `number`, counted from 0 at the first fit at `from` or later. At a fit, a transmission of `occ` ns
+/// fits in `class`.
+///
+/// Returns `None` if too many runs of fits come before it. `leave_time` calls it.
 fn nth_fit<A: Allocator + Copy>(
     list: &CyclicList<u8, A>,
     class: u8,
@@ -43,10 +45,10 @@ fn nth_fit<A: Allocator + Copy>(
     None
 }
 
-/// Returns the time in ns by which work of `work` ns that waits from time `from` has left. Its last frame takes `least` ns. Returns `None`
-/// if the search takes too long.
+/// Returns the time in ns by which work of `work` ns that waits from time `from` has left. Its last frame takes `least` ns. The search
+/// counts fits of `occ` ns in `class`.
 ///
-/// `longest_delay` and `add_interval` call it.
+/// Returns `None` if the search takes too long. `longest_delay` and `add_interval` call it.
 pub(crate) fn leave_time<A: Allocator + Copy>(
     list: &CyclicList<u8, A>,
     class: u8,
@@ -71,6 +73,7 @@ pub(crate) fn leave_time<A: Allocator + Copy>(
 }
 
 /// Returns the longest delay in ns of work of `work` ns that arrives at a time from `first` to `last`. Earlier work has left by `clear`.
+/// `leave_time` explains the other parameters.
 ///
 /// The delay is greatest for arrivals at `first`, at `last`, or just after a run of fits. Returns `None` if the search takes too long.
 /// `add_interval` calls it.

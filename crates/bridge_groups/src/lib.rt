@@ -2,6 +2,9 @@
 //! Groups of stream filters that share queues: other traffic doesn't change their records, and each frame leaves in time.
 //!
 //! The laws of one queue give delay bounds and capacities for frames with an arrival curve, as flow meters enforce it.
+//!
+//! Work is transmission time in ns. A fit is a time at which a transmission fits into the open times of a class. Successive fits, one each
+//! ns, are a run of fits.
 
 mod admission;
 mod cost_search;

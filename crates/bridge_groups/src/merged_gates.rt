@@ -1,4 +1,4 @@
-//! One gate control list that stands for the stream gates of the filters that share a queue.
+//! Merges the lists of the stream gates of the filters that share a queue into one gate control list.
 ghost use Rattle.std.specs.Prelude.{◌≡◌, ◌≤◌, ◌<◌, ◌+◌, ◌%◌, IfOk, IfSome, ℕ, Some, length, nat_eq, true};
 ghost use Rattle.std.specs.List.{list_all};
 ghost use Rattle.bridge_limits.specs.Members.{IsMember};
@@ -16,7 +16,7 @@ use bridge_filter::FilterPlan;
 use bridge_gate::{GateEntry, Schedule};
 use std::alloc::Allocator;
 
-/// Most stream gates that one list stands for. `merged_list` visits each gate once for each entry.
+/// Most stream gates whose lists are merged. `merged_list` visits each gate once for each entry of the merged list.
 const MOST_GATES: usize = 256;
 
 /// Returns the list of a filter's stream gate. `None` if the gate has a fixed state or a schedule change, or if an open entry has no octet
@@ -37,8 +37,8 @@ fn gate_list<'a, A: Allocator + Copy>(
     Some(list)
 }
 
-/// Returns copies of the lists of the filters' stream gates, in the order of the filters. `None` if a gate has none that `gate_list` finds.
-/// `gate_figures` calls it.
+/// Returns copies of the lists of the filters' stream gates, in the order of the filters. Returns `None` if `gate_list` returns `None` for
+/// a filter. `gate_figures` calls it.
 pub(crate) fn gate_lists<A: Allocator + Copy>(
     alloc: A,
     plan: &Plan<A>,
@@ -73,8 +73,8 @@ fn is_common_cycle<A: Allocator + Copy>(lists: &[CyclicList<GateEntry, A>], cycl
     true
 }
 
-/// Returns a common multiple in ns of the lists' cycle times. `None` without lists, or if the search finds none up to `LONGEST_CYCLE`.
-/// `merged_list` calls it.
+/// Returns a common multiple in ns of the lists' cycle times; 1 without lists. Returns `None` if the search finds none up to
+/// `LONGEST_CYCLE`. `merged_list` calls it.
 fn gates_cycle<A: Allocator + Copy>(lists: &[CyclicList<GateEntry, A>]) -> Option<u64>
     ensures common { IfSome result (λ n. list_all (λ l. nat_eq (n % l.cycle) 0) lists.now ≡ true) }
     ensures some { IfSome result (λ n. (1 ≤ n) × (n ≤ LONGEST_CYCLE)) }
@@ -202,10 +202,10 @@ fn merged_entries<A: Allocator + Copy>(
     Ok(Some(entries))
 }
 
-/// Returns one list that stands for the lists of several stream gates: open while a gate is open, with the sum of their octet limits.
+/// Returns one list for several stream gates: open while at least one is open, with the sum of the octet limits of the open gates.
 ///
-/// Returns `None` if the lists have no common cycle up to `LONGEST_CYCLE`, or if the list would have too many entries. `gate_figures` calls
-/// it.
+/// Returns `None` if there are more than `MOST_GATES` lists, or if they have no common cycle up to `LONGEST_CYCLE`. It also returns `None`
+/// if the merged list would be invalid. `gate_figures` calls it.
 pub(crate) fn merged_list<A: Allocator + Copy>(
     alloc: A,
     lists: &[CyclicList<GateEntry, A>],

@@ -41,8 +41,10 @@ pub(crate) fn find_meter(meters: &[(u32, MeterPlan)], number: u32) -> MeterPlan
     }
 }
 
-/// Returns the burst in octets and the rate in bit/s that an optional meter of the plan lets pass; 0 without a meter. `cost_sums`, `sums`
-/// and `filter_count_curve` call it.
+/// Returns the burst in octets and the rate in bit/s that an optional meter of the plan lets pass; 0 without a meter. Excess burst and rate
+/// count unless the meter drops yellow frames.
+///
+/// `cost_sums`, `sums` and `filter_count_curve` call it.
 pub(crate) fn burst_and_rate<A: Allocator + Copy>(
     plan: &Plan<A>,
     meter: Option<u32>,

@@ -19,7 +19,7 @@ const MOST_OPENINGS: u64 = 2_048;
 /// Largest number of the port's cycles in a common cycle of port and stream gate.
 const MOST_CYCLES: u64 = 1_024;
 
-/// Greatest `carry` in ns with which a search begins. If a search finds a greater one, there is no bound.
+/// Greatest `carry` (of `GateDelays`) in ns with which a search begins. If a search finds a greater one, there is no bound.
 const LONGEST_CARRY: u64 = 100_000_000_000_000_000;
 
 /// Largest number of searches over a common cycle. Each search assumes the `carry` that the search before it found.
@@ -34,10 +34,10 @@ pub(crate) struct GateDelays {
     pub(crate) carry: u64,
 }
 
-/// Returns `delays`, increased by those of interval `opening` if greater. Earlier work has left `carry` ns after its start; `next` ns is
-/// the next opening. Returns `None` if the search takes too long.
+/// Returns `delays`, raised to the values of the open interval `opening` if these are greater. Work of earlier intervals has left `carry`
+/// ns after the start of `opening`; the next opening is at `next` ns.
 ///
-/// `visit_openings` calls it.
+/// Each `share` octets of SDUs take at most `least` ns. Returns `None` if the search takes too long. `visit_openings` calls it.
 fn add_interval<A: Allocator + Copy>(
     list: &CyclicList<u8, A>,
     class: u8,
@@ -76,10 +76,10 @@ fn add_interval<A: Allocator + Copy>(
     })
 }
 
-/// Returns the greatest delays over all open intervals that start in the `common` ns from `first` on. Earlier work has left `carry` ns
-/// after each opening. Returns `None` if the search takes too long.
+/// Returns the greatest delays over all open intervals that start in the `common` ns from `first` on. Work of earlier intervals has left
+/// `carry` ns after each opening.
 ///
-/// `gate_delay_bound` calls it.
+/// Each `share` octets of SDUs take at most `least` ns. Returns `None` if the search takes too long. `gate_delay_bound` calls it.
 fn visit_openings<A: Allocator + Copy>(
     list: &CyclicList<u8, A>,
     class: u8,
@@ -173,8 +173,10 @@ fn open_time<A: Allocator + Copy>(list: &CyclicList<u8, A>, class: u8) -> u64
     time
 }
 
-/// Whether more frames pass the stream gate in the long run than fit into the windows of `class`. Then each search would find a greater
-/// `carry`, so `gate_delay_bound` begins none.
+/// Whether more frames pass the stream gate in the long run than fit into the windows of `class`. Each `share` octets of SDUs take at most
+/// `least` ns.
+///
+/// If so, each search would find a greater `carry`, and `gate_delay_bound` begins none.
 fn is_overloaded<A: Allocator + Copy>(
     list: &CyclicList<u8, A>,
     class: u8,

@@ -77,10 +77,10 @@ pub fn conforming_frame_is_green()
         → frame_colour p (meter_history p es) at octets dei ≡ Green }
 {}
 
-/// A delay bound needs proof for few spans only. They begin just after a run of fits (`fit`, `shut`) and last at most a cycle (`cycle`);
-/// each run has one (`run`).
+/// To prove a delay bound, few spans suffice; a span is the `w` ns from time `u`. They begin just after a run of fits (`fit`, `shut`).
+/// Spans that last whole cycles more follow (`cycle`).
 ///
-/// So searches for bounds need few steps.
+/// For each run of fits, one span gives the greatest delay (`run`). So searches for bounds need few steps.
 pub fn few_spans_suffice()
     ensures fit { (opens : ℕ → Bool) (occ least : ℕ) (curve : ℕ → ℕ) (b u w : ℕ)
         → ((t : ℕ) → (v : ℕ) × IsFirstFit opens occ t v)
@@ -148,8 +148,8 @@ pub fn next_hop_conforms()
         → recent_departed_octets u (x ∷ xs) * unit ≤ burst * unit + rate * (w + (worst - best)) }
 {}
 
-/// A delay bound for a curve holds for each lesser curve (`lesser`). If the class is always open and work arrives slower than it leaves,
-/// the burst is a bound (`always`).
+/// A delay bound for a curve holds for each lesser curve (`lesser`). The burst is a bound if the class is always open and work arrives at
+/// most at link speed (`always`).
 ///
 /// Searches for bounds rest on it.
 pub fn bounds_follow_curves()
@@ -164,7 +164,8 @@ pub fn bounds_follow_curves()
         → IsDelayBound opens occ least curve (curve 0) }
 {}
 
-/// At most `n` frames of `m` octets in any period conform to a meter. Its burst is `n * m`, and its rate gives this burst in a period.
+/// At most `n` frames of at most `m` octets in any period conform to a meter with burst `n * m`. The meter's rate must give this burst in a
+/// period.
 ///
 /// So talkers with a number of frames in any period fit a meter.
 pub fn few_frames_conform()
@@ -176,7 +177,9 @@ pub fn few_frames_conform()
         → recent_sent_octets u (x ∷ xs) * unit ≤ m * n * unit + rate * w }
 {}
 
-/// The cost `on + (on - occ)` suffices for a frame of `on` ns. Each run of fits of `occ` ns must start with a fit of `on` ns.
+/// In a bound that counts fits of `occ` ns, the cost `on + (on - occ)` suffices for a frame of `on` ns. Each run of fits must start with a
+/// fit of `on` ns.
+///
 /// docs/DELAYS.md cites it.
 pub fn long_frame_cost_suffices()
     ensures { (opens : ℕ → Bool) (occ least on : ℕ)
@@ -188,8 +191,8 @@ pub fn long_frame_cost_suffices()
         → IsSufficientCost opens occ least on (on + (on - occ)) }
 {}
 
-/// At a schedule change, the bound is `b1 + occ + b2` ns. It adds the old lists' bound, a longest frame, and the new lists' bound for a
-/// shifted curve.
+/// At a schedule change, the bound is `b1 + occ + b2` ns. It adds the old list's bound, a longest transmission time, and the new list's
+/// bound for a shifted curve.
 ///
 /// Bounds over a schedule change rest on it.
 pub fn copies_leave_in_time_over_change<X: Drop>()

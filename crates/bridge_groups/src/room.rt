@@ -33,8 +33,9 @@ fn shortest_span(curve: &LinearCurve, counts: &[LinearCurve], work: u64, frames:
     Some(time.max(first_frames_time(counts, frames)))
 }
 
-/// Whether never more than `room` frames wait at once; `sufficient_room` tests capacities with it. The class is always open if `per_cycle`
-/// is `None`; otherwise each cycle has `per_cycle` fits.
+/// Returns true only if a capacity of `room` frames suffices: then the queue drops no copy as full. Frames need `least` to `occ` ns.
+///
+/// Each cycle has `per_cycle` fits; `None` means that the class is always open. `sufficient_room` calls it.
 fn is_sufficient<A: Allocator + Copy>(
     list: &CyclicList<u8, A>,
     class: u8,
@@ -82,8 +83,8 @@ fn is_sufficient<A: Allocator + Copy>(
     }
 }
 
-/// Returns the number of fits in each cycle, for `is_sufficient`; `None` if the class is always open. Returns `Err` if more work arrives in
-/// the long run than fits. `sufficient_room` calls it.
+/// Returns the number of fits of `occ` ns in each cycle, for `is_sufficient`; `None` if the class is always open. Returns `Err` if more
+/// work arrives in the long run than fits. `sufficient_room` calls it.
 fn room_fits<A: Allocator + Copy>(
     list: &CyclicList<u8, A>,
     class: u8,

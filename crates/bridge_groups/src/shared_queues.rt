@@ -44,7 +44,7 @@ pub struct SharedQueue {
     pub class: u8,
     /// Largest delay in ns of a sent copy, from arrival to the end of transmission, gap included.
     pub bound: u64,
-    /// Whether the bound holds by the meters of the filters too; otherwise only by the capacity.
+    /// Whether the meters of the filters give a delay bound. If not, `bound` follows from the capacity only.
     pub is_metered: bool,
     /// Capacity in frames with which the queue drops no copy as full; `None` if no such capacity is known.
     pub room: Option<u16>,
@@ -74,8 +74,9 @@ fn shifted_curve(curve: &LinearCurve, shift: u64) -> Option<LinearCurve>
     })
 }
 
-/// Returns the delay bound in ns of a queue over a schedule change, by the arrival curve of its frames. Returns `None` if a bound is
-/// unknown or too large. `lists_bound` calls it.
+/// Returns the delay bound in ns of a queue over a schedule change, by the arrival curve of its frames. Frames need `least` to `occ` ns.
+///
+/// Returns `None` if a bound is unknown or too large. `lists_bound` calls it.
 fn change_bound<A: Allocator + Copy>(
     joined: &Joined<u8, A>,
     class: u8,
@@ -104,8 +105,9 @@ fn change_bound<A: Allocator + Copy>(
     Some(before + occ + after)
 }
 
-/// Returns the delay bound in ns of a queue under gate control lists, by the arrival curve of its frames. Returns `None` if work arrives
-/// faster than it leaves. `curve_figures` calls it.
+/// Returns the delay bound in ns of a queue under gate control lists, by the arrival curve of its frames. Frames need `least` to `occ` ns.
+///
+/// Returns `None` if no bound is found: for example, work may arrive faster than it leaves. `curve_figures` calls it.
 fn lists_bound<A: Allocator + Copy>(
     lists: &Egress<A>,
     class: u8,
@@ -131,7 +133,7 @@ fn lists_bound<A: Allocator + Copy>(
 }
 
 /// Returns a capacity with which a queue under one gate control list never overflows. `curve` bounds the work of its frames, `counts` their
-/// number.
+/// number. Frames need `least` to `occ` ns.
 ///
 /// Returns `None` if no tried capacity suffices, or if the port has a schedule change. `curve_figures` calls it.
 fn lists_room<A: Allocator + Copy>(
@@ -172,7 +174,8 @@ struct MeterFigures {
     room: Option<u16>,
 }
 
-/// Returns bound and capacity of a queue by the curves of the meters of `sharers`. `meter_figures` calls it.
+/// Returns bounds and capacity of a queue by the curves of the meters of `sharers`, whose largest SDU has `sdu` octets. For a port without
+/// gate control list, all are `None`. `meter_figures` calls it.
 fn curve_figures<A: Allocator + Copy>(
     plan: &Plan<A>,
     sharers: &[(u32, FilterPlan)],
@@ -211,8 +214,9 @@ fn curve_figures<A: Allocator + Copy>(
     }
 }
 
-/// Returns bound and capacity of a queue by the meters of `sharers`. Both are `None` if a sharer has no meter, or if work may arrive faster
-/// than it leaves. `shared_queue` calls it.
+/// Returns bounds and capacity of a queue by the meters of `sharers`, whose largest SDU has `sdu` octets. `shared_queue` calls it.
+///
+/// All are `None` if a sharer has no meter, or if work may arrive faster than it leaves.
 fn meter_figures<A: Allocator + Copy>(
     alloc: A,
     plan: &Plan<A>,
@@ -247,8 +251,8 @@ fn meter_figures<A: Allocator + Copy>(
     Ok(curve_figures(plan, sharers, port, class, sdu, &curve, &counts))
 }
 
-/// Returns the least of a queue's bounds by meters, by costs and by capacity, in ns. Returns the bound by capacity if `by_meters` is `None`,
-/// because `bounds` marks this queue as `unmetered`.
+/// Returns the least of a queue's bounds in ns: `by_meters`, `by_costs` and `by_room` (by capacity). Without `by_meters`, returns
+/// `by_room`, because `bounds` marks this queue as `unmetered`.
 fn least_bound(by_meters: Option<u64>, by_costs: Option<u64>, by_room: u64) -> u64
     ensures { (by_meters ≡ Some result) ⊎ ((by_costs ≡ Some result) ⊎ (result ≡ by_room)) }
 {

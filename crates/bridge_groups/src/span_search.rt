@@ -17,7 +17,7 @@ use std::alloc::Allocator;
 /// Largest number of runs of fits that a search visits. Two cycles of a list have at most 258 runs.
 const MOST_RUNS: u64 = 4_096;
 
-/// Returns the number of fits in each cycle. `windows_delay_bound` and `room_fits` call it.
+/// Returns the number of fits of `occ` ns in `class` in each cycle of the list. `windows_delay_bound` and `room_fits` call it.
 pub(crate) fn fits_per_cycle<A: Allocator + Copy>(
     list: &CyclicList<u8, A>,
     class: u8,
@@ -48,7 +48,7 @@ pub(crate) fn fits_per_cycle<A: Allocator + Copy>(
 /// cycles.
 #[derive(Clone, Copy)]
 pub(crate) struct SpanLimits {
-    /// Work of the frame in question, in ns: it starts once all other work has left.
+    /// Work in ns of the frame in question. The frame starts once all other work has left.
     pub(crate) work: u64,
     /// Time in ns at which the spans begin.
     pub(crate) start: u64,
@@ -122,7 +122,8 @@ fn pass_run(curve: &LinearCurve, limits: &SpanLimits, search: SpanSearch, run: F
     }
 }
 
-/// Finds the next run of fits, and returns the search after it. `spans_bound` repeats this step until all spans are covered.
+/// Finds the next run of fits of `occ` ns in `class`, and returns the search after it. `spans_bound` repeats this step until all spans are
+/// covered.
 fn search_step<A: Allocator + Copy>(
     list: &CyclicList<u8, A>,
     class: u8,
@@ -151,10 +152,10 @@ fn search_step<A: Allocator + Copy>(
     pass_run(curve, limits, search, run)
 }
 
-/// Returns a bound in ns of the delays in all spans that begin at `start` and last from `shortest` ns up to a cycle more. Returns `None` if
-/// the list has too many runs of fits.
+/// Returns a bound in ns of the delays over all spans that begin at `start` and last from `shortest` ns up to one cycle more. The other
+/// parameters are as in `all_spans_bound`.
 ///
-/// `all_spans_bound` calls it.
+/// Returns `None` if the list has too many runs of fits. `all_spans_bound` calls it.
 pub(crate) fn spans_bound<A: Allocator + Copy>(
     list: &CyclicList<u8, A>,
     class: u8,

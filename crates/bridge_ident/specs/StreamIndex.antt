@@ -1,4 +1,4 @@
--- Index of a stream identity table. No public clause uses it.
+-- Index of a stream identity table. No public clause uses these definitions.
 use Rattle.std.specs.Prelude.{◌≡◌, ◌+◌, ◌*◌, ◌%◌, ◌^◌, ℕ, Bool, true, false, not, ◌&&◌, nat_eq, nat_lt, Option, Some, None, List, [], ◌∷◌, slice_get, if◌then◌else◌}
 use Rattle.std.specs.Str.{bytes_eq}
 use Rattle.indexmap.specs.IndexMap.{IndexMap, get}
@@ -33,8 +33,10 @@ is_of_kind kind tagged e = is_same_kind e.kind kind && accepts_tagged e.tag tagg
 abbrev pub has_key : StreamEntry → ℕ → ℕ → List ℕ → Bool
 has_key e port vid address = nat_eq e.port port && nat_eq e.vid vid && bytes_eq e.address address
 
--- First entry of this kind with this port, VLAN identifier and address that accepts these frames: its index, counted
--- from `n`, and its handle.
+-- First entry of kind `kind` with this port, VLAN identifier and address, among those for frames with (`tagged`) or
+-- without a VLAN tag. `None` without such an entry.
+--
+-- The result is the entry's index, counted from `n`, and its handle.
 abbrev pub first_entry : Kind → Bool → ℕ → List StreamEntry → ℕ → ℕ → List ℕ → Option FirstEntry
 first_entry kind tagged n [] port vid address = None
 first_entry kind tagged n (e ∷ es) port vid address = if is_of_kind kind tagged e && has_key e port vid address then Some (record { place = n; handle = e.handle }) else first_entry kind tagged (n + 1) es port vid address

@@ -73,7 +73,8 @@ impl StreamEntry {
     }
 }
 
-/// Whether a frame's tag names a VLAN: its VLAN identifier isn't 0. `matches` and `find_handle`, and `accepts_tag` of `net_model` call it.
+/// Whether a frame's tag names a VLAN: its VLAN identifier isn't 0. `StreamEntry::matches`, `StreamIndex::find_handle`, and `accepts_tag`
+/// of `net_model` call it.
 pub fn has_vlan_tag(tag: Option<Tag>) -> bool
     ensures { result ≡ has_vlan_tag tag }
 {
@@ -83,7 +84,7 @@ pub fn has_vlan_tag(tag: Option<Tag>) -> bool
     }
 }
 
-/// Returns the handle of the first matching entry; `None` if no entry matches. Tables without index use it.
+/// Returns the handle of the first matching entry; `None` if no entry matches. `Ident::handle_of` calls it if the table has no index.
 #[inline(never)]
 fn first_handle(entries: &[StreamEntry], port: u8, head: &Head, vid: u16) -> Option<u32>
     ensures { result ≡ first_handle entries.now port head.now vid }
@@ -96,7 +97,7 @@ fn first_handle(entries: &[StreamEntry], port: u8, head: &Head, vid: u16) -> Opt
     None
 }
 
-/// Stream identity table. Contracts see the list of its entries.
+/// Stream identity table. In contracts, its value is the list of its entries.
 #[derive(Drop)]
 pub struct Ident<A: Allocator + Copy> {
     /// Entries in the given order.
@@ -122,7 +123,7 @@ impl<A: Allocator + Copy> Model for Ident<A> {
 }
 
 impl<A: Allocator + Copy> Ident<A> {
-    /// Makes a table without index. Allocates no memory. `with_index` adds the index, which makes look-ups faster.
+    /// Makes a table without index. Allocates no memory. Only tests call it: `with_index` makes look-ups faster.
     pub fn new(entries: Vec<StreamEntry, A>) -> Ident<A>
         ensures { result ≡ entries.items }
     {
@@ -144,7 +145,7 @@ impl<A: Allocator + Copy> Ident<A> {
         })
     }
 
-    /// Returns the entries in the given order. `Plan::streams` returns them.
+    /// Returns the entries in the given order. Only tests call it.
     pub fn entries(&self) -> &[StreamEntry]
         ensures { result.now ≡ self.now }
     {

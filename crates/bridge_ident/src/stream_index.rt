@@ -45,7 +45,7 @@ struct AddressIndex<A: Allocator + Copy> {
     index_hints: Vec<u16, A>,
 }
 
-/// Index of a stream identity table: the first entry for each key. `Ident` finds the stream handle of a frame by it.
+/// Index of a stream identity table: the first entry for each key. `Ident` finds the stream handle of a frame with this index.
 #[derive(Drop)]
 pub(crate) struct StreamIndex<A: Allocator + Copy> {
     /// Entries for frames with a tag whose VLAN identifier isn't 0.
@@ -76,8 +76,8 @@ impl StreamEntry {
 /// 2^64: a key has the port above 64 bits for VLAN identifier and address.
 const TWO_POW_64: u128 = 1 << 64;
 
-/// Returns the key of entries with a port, a VLAN identifier and an address. Look-ups compute the keys of a frame's addresses by it.
-/// `index_entry` and `AddressIndex::find_handle` call it.
+/// Returns the key of a port, a VLAN identifier and an address. `index_entry` calls it for entries, and `AddressIndex::find_handle` for the
+/// addresses of a frame.
 #[tactic(auto, unfolding(crate::specs::StreamIndex::entry_key))]
 fn entry_key(port: u8, vid: u16, address: [u8; 6]) -> u128
     ensures number { result ≡ entry_key port vid address }
@@ -188,7 +188,7 @@ fn hint_slot(key: u128, hints: usize) -> usize {
     (mixed.wrapping_mul(hints as u64) >> 32) as usize
 }
 
-/// Returns the index at which `key` may be, or 0 without hints. Callers test the key at this index.
+/// Returns the index at which `key` may be, or 0 without hints. `handle_by_keys` tests the key at this index.
 #[inline(always)]
 fn hinted_index(hints: &[u16], key: u128) -> usize {
     match hints.get(hint_slot(key, hints.len())) {
@@ -263,7 +263,7 @@ fn with_sources<A: Allocator + Copy>(
 }
 
 /// Makes the index of the first entries, by destination or source address, for frames with a VLAN tag (`tagged` is true) or for other
-/// frames. `new` calls it.
+/// frames. `StreamIndex::new` calls it.
 fn make_address_index<A: Allocator + Copy>(
     alloc: A,
     entries: &[StreamEntry],
@@ -278,7 +278,7 @@ fn make_address_index<A: Allocator + Copy>(
     }
 }
 
-/// Returns the entry at index `place` of `firsts` if it has this key, otherwise `None`. `handle_by_keys` tests a hint by it.
+/// Returns the entry at index `place` of `firsts` if it has this key, otherwise `None`. `handle_by_keys` calls it to test a hint.
 #[inline(always)]
 fn entry_by_index<A: Allocator + Copy>(
     firsts: &FirstEntries<A>,
@@ -321,7 +321,7 @@ fn entry_by_hash<A: Allocator + Copy>(
     }
 }
 
-/// Returns the entry with the lower index, because the first matching entry counts; `None` if both are absent.
+/// Returns the entry with the lower index, because the first matching entry counts; `None` if both are absent. `handle_by_hash` calls it.
 #[inline(always)]
 fn earlier_entry(destination: Option<FirstEntry>, source: Option<FirstEntry>) -> Option<FirstEntry>
     ensures { result ≡ earlier_entry destination source }
@@ -412,7 +412,7 @@ impl<A: Allocator + Copy> StreamIndex<A> {
         Ok(StreamIndex { tagged, others })
     }
 
-    /// Returns the handle of the first matching entry; `None` if no entry matches. `handle_of` calls it if the table has an index.
+    /// Returns the handle of the first matching entry; `None` if no entry matches. `Ident::handle_of` calls it if the table has an index.
     #[inline(always)]
     pub(crate) fn find_handle(&self, port: u8, head: &Head, vid: u16) -> Option<u32>
         ensures { (entries : List StreamEntry)

@@ -6,7 +6,7 @@ ghost use Rattle.std.specs.Prelude.{◌≡◌, ◌*◌, ◌^◌};
 use std::alloc::{AllocError, AllocFailed};
 use thiserror::Error;
 
-/// The allocator refused memory. Every crate of the bridge returns this type.
+/// The allocator refused memory. Functions of the bridge that allocate return this error.
 #[derive(Clone, Copy, Debug, PartialEq, Eq, Error)]
 #[error("no memory")]
 pub struct NoMemory;

@@ -21,10 +21,10 @@ abbrev pub least_bound : ℕ → List ℕ → ℕ
 least_bound a [] = a
 least_bound a (x ∷ xs) = min x (least_bound a xs)
 
--- Upper bounds of the committed bucket, one per judged frame: size plus refill since that frame, minus units that it
--- and newer frames took.
--- Each bound is for time `now`, and assumes a full bucket just before its frame.
--- The units `green` are those that newer green frames took.
+-- Upper bounds of the committed bucket's level at time `now`, one for each judged frame. A bound assumes a full bucket
+-- before its frame: size, plus refill, minus units that green frames took since then.
+--
+-- Green frames newer than the list took `green` units.
 abbrev pub committed_bounds : Limits → ℕ → ℕ → List JudgedFrame → List ℕ
 committed_bounds l now green [] = []
 committed_bounds l now green (f ∷ fs) = (l.cbs + l.cir * (now - f.at) - (green + f.green)) ∷ committed_bounds l now (green + f.green) fs
@@ -43,10 +43,10 @@ overflow l at then_held green now held = then_held + l.cir * (now - at) - green 
 abbrev pub coupled_overflow : Limits → ℕ → ℕ
 coupled_overflow l o = if l.coupling then o else 0
 
--- Upper bounds of the excess bucket, one per judged frame: size plus refill and coupled overflow since that frame,
--- minus units taken since then.
--- Each bound is for time `now`, and assumes a full bucket just before its frame.
--- The units `held` are in the committed bucket at `now`, and newer frames took the units `green` and `yellow`.
+-- Upper bounds of the excess bucket's level at time `now`, one for each judged frame. A bound assumes a full bucket
+-- before its frame: size, plus refill and coupled overflow, minus units taken since then.
+--
+-- The committed bucket has `held` units at `now`. Frames newer than the list took the units `green` and `yellow`.
 abbrev pub excess_bounds : Limits → ℕ → ℕ → ℕ → ℕ → List JudgedFrame → List ℕ
 excess_bounds l now held green yellow [] = []
 excess_bounds l now held green yellow (f ∷ fs) =

@@ -83,8 +83,8 @@ meter_history p (Cleared ∷ es) = record { judged = (meter_history p es).judged
 abbrev pub frame_colour : MeterPlan → MeterHistory → ℕ → ℕ → Bool → Colour
 frame_colour p x at octets dei = if x.all_red then Red else colour_by_history p x.judged at octets dei
 
--- Bucket levels in units just after the newest judged frame, and the arrival time of that frame; without frames, full
--- buckets at time 0.
+-- Bucket levels in units just after the newest judged frame, the arrival time of that frame, and the red flag `all_red`. Without frames,
+-- the buckets are full at time 0.
 abbrev pub frames_buckets : Limits → Bool → List JudgedFrame → Buckets
 frames_buckets l all_red [] = record { committed = l.cbs; excess = l.ebs; at = 0; all_red = all_red }
 frames_buckets l all_red (f ∷ fs) = record { committed = committed l f.at fs - f.green; excess = excess l f.at fs - f.yellow; at = f.at; all_red = all_red }

@@ -5,12 +5,12 @@ use Rattle.bridge_meter.specs.declared.Buckets.{Buckets}
 use Rattle.bridge_meter.specs.Bounds.{JudgedFrame}
 use Rattle.bridge_meter.specs.Colours.{MeterEvent, meter_history, history_buckets}
 
--- State of a meter that contracts see: its plan and its buckets.
+-- State of a meter as contracts see it: its plan and its buckets.
 pub record MeterState : Type 0 where
   pub plan : MeterPlan
   pub buckets : Buckets
 
--- Arrival time in ns of the newest judged frame, or 0.
+-- Arrival time in ns of the newest judged frame; 0 if there is none.
 abbrev pub newest_time : List JudgedFrame → ℕ
 newest_time [] = 0
 newest_time (f ∷ fs) = f.at

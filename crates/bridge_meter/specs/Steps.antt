@@ -16,7 +16,8 @@ pub record IsWithinLimits (p : MeterPlan) : Type 0 where
   pub cbs : p.cbs ≤ LARGEST_BURST
   pub ebs : p.ebs ≤ LARGEST_BURST
 
--- Buckets after the refill up to time `t`: neither level exceeds its size, and overflow may enter the excess bucket.
+-- Buckets after the refill up to time `t` ns. Neither level exceeds its size; with `coupling`, overflow of the
+-- committed bucket enters the excess bucket.
 unfoldable pub refill_buckets : Limits → Buckets → ℕ → Buckets
 refill_buckets l b t =
     let c = min l.cbs (b.committed + l.cir * (t - b.at)) in

@@ -27,7 +27,7 @@ pub enum Colour {
     Green,
     /// Within the excess rate and burst.
     Yellow,
-    /// Beyond both rates, or the red flag is set.
+    /// Beyond the rates and bursts that the frame may use, or the red flag is set.
     Red,
 }
 
@@ -53,7 +53,7 @@ pub struct MeterPlan {
 }
 
 impl MeterPlan {
-    /// Whether the rates and burst sizes are within the limits of a meter. Callers that don't read a plan test a meter before they make it.
+    /// Whether the rates are at most `HIGHEST_RATE` and the burst sizes at most `LARGEST_BURST`. `Meter::new` requires it.
     pub fn is_within_limits(&self) -> bool
         ensures { result ≡ is_within_limits self.now }
     {
@@ -115,7 +115,7 @@ impl Meter {
         Meter { plan, buckets }
     }
 
-    /// Returns the rates, sizes and switches. The caller needs the switch that drops yellow frames.
+    /// Returns the meter's settings: rates, burst sizes and switches. Callers read whether they must drop yellow frames.
     pub fn plan(&self) -> MeterPlan
         ensures plan { result ≡ self.now.plan }
         ensures stands { (plan : MeterPlan) (events : List MeterEvent) → StandsFor plan self.now events
@@ -161,8 +161,10 @@ impl Meter {
         self.buckets.all_red = false;
     }
 
-    /// Judges a frame with the current buckets: refills them, takes the frame's units, and may set the red flag. `colour` calls it for each
-    /// frame.
+    /// Returns the colour of a frame: refills the buckets, takes the frame's units, and may set the red flag. While the red flag is set, it
+    /// returns `Red` and changes nothing.
+    ///
+    /// `colour` calls it for each frame.
     fn judge_frame(&mut self, t: u64, octets: u32, dei: bool) -> Colour
         requires { self.old.buckets.at ≤ t }
         ensures step { self.new ≡ meter_step self.old t octets dei }
@@ -238,8 +240,8 @@ fn spend_tokens(plan: &MeterPlan, buckets: Buckets, octets: u32, dei: bool) -> (
     }
 }
 
-/// Computes later bucket levels from the levels that the newest judged frame left. The overflow since an earlier frame grows by an amount
-/// independent of that frame.
+/// The bucket levels `d` ns after the newest judged frame follow from the levels that this frame left. The overflow since any earlier frame
+/// grows by an amount that doesn't depend on the earlier frame.
 ///
 /// So a meter needs to store the newest levels only.
 pub fn buckets_step()

@@ -111,9 +111,10 @@ module _ {X : Type 0} where
   fate_by_index i [] = None
   fate_by_index i (x ∷ xs) = if nat_eq i (length xs) then Some x.fate else fate_by_index i xs
 
-  -- Holds if the fate of copy `x` is Never if it can never fit, otherwise Full if at least `room` copies wait,
-  -- otherwise Queued or Started.
-  -- The list holds the copies that were offered before `x`.
+  -- Holds if copy `x` has the fate that the rules allow. This is Never if it can never fit, otherwise Full if at least
+  -- `room` copies wait, otherwise Queued or Started.
+  --
+  -- The list has the copies that were offered before `x`.
   abbrev pub IsAnswer : PortRules X → Copy X → List (Copy X) → Fate → Type 0
   IsAnswer r x xs Never = r.ever x.class (r.occ x.item) ≡ false
   IsAnswer r x xs Full = (r.ever x.class (r.occ x.item) ≡ true) × (r.room x.class ≤ count_waiting x.class x.at xs)

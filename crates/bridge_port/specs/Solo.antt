@@ -21,8 +21,8 @@ module _ {X : Type 0} where
   last_done_time r [] = 0
   last_done_time r (x ∷ xs) = done_time_or x.fate (r.occ x.item) (last_done_time r xs)
 
-  -- Holds if copy `x` was dropped as IsAnswer states, or started at the first fitting time, once it was offered and
-  -- the previous transmission had ended.
+  -- Holds if copy `x` was dropped as IsAnswer states, or started at the first fitting time. The search for this time
+  -- begins at its offer or at the previous end of transmission, whichever is later.
   abbrev pub IsSoloFate : PortRules X → Copy X → List (Copy X) → Fate → Type 0
   IsSoloFate r x xs Never = r.ever x.class (r.occ x.item) ≡ false
   IsSoloFate r x xs Full = (r.ever x.class (r.occ x.item) ≡ true) × (r.room x.class ≤ count_waiting x.class x.at xs)

@@ -96,7 +96,7 @@ refusal_fate None = Queued
 refusal_fate (Some refusal.NeverFits) = Never
 refusal_fate (Some refusal.Full) = Full
 
--- Queues after an offer: an accepted item is the last of its queue.
+-- Queues after an offer: a queued item is the last of its queue, and a dropped item changes no queue.
 abbrev pub queues_after_offer : {X : Type 0} → Option Refusal → List (List X) → ℕ → X → List (List X)
 queues_after_offer None qs c x = slice_set qs c (slice_index_or qs c [] ++ x ∷ [])
 queues_after_offer (Some r) qs c x = qs

@@ -1,4 +1,5 @@
-//! Earliest starts of a port's heads. The best head makes the next start: it can start earliest, or, at equal times, has the highest class.
+//! Earliest starts of a port's heads. A head is the oldest item of a queue. The best head can start earliest; at equal times, it has the
+//! highest class.
 ghost use Rattle.std.specs.Prelude.{◌≡◌, ◌+◌, ◌<◌, ◌≤◌, ℕ, false, true, None, IsSome, [], vec_len, slice_index_or, slice_set};
 ghost use Rattle.bridge_port.specs.GateSchedule.{can_fit};
 ghost use Rattle.bridge_port.specs.Rings.{ring_queues};
@@ -12,8 +13,8 @@ use bridge_frame::{Speed, occupation};
 use circular_buffer::HeapCircularBuffer;
 use std::alloc::Allocator;
 
-/// Returns the better of the head `best` and the head of `class` with the earliest start `fit`. The earlier head is better, or at equal
-/// times that in the higher class.
+/// Returns the better of the head `best` and the head of `class` with the earliest start `fit` in ns. The earlier start is better; at equal
+/// times, the higher class.
 ///
 /// `sooner_optional_head` and `add_item_fit` call it.
 #[inline(always)]
@@ -41,8 +42,9 @@ fn sooner_optional_head(
     }
 }
 
-/// Returns the earliest start in ns, `from` or later, of the head of `class`; `None` if the queue is empty. `refresh_fit` calls it if the
-/// stored start is too early.
+/// Returns the earliest start in ns, `from` or later, of the head of `class`; `None` if the queue is empty.
+///
+/// `refresh_fit` calls it if the stored start is too early.
 // Not inlined, so that the loop of `refresh_fits` stays small.
 #[inline(never)]
 fn head_fit<T: Drop, A: Allocator + Copy>(

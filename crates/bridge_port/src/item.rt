@@ -9,14 +9,14 @@ use thiserror::Error;
 pub struct Item<T> {
     /// Length of the frame in octets.
     pub len: u32,
-    /// Load that the owner of the port gets back when the frame starts, such as the frame's octets.
+    /// Load that the owner of the port gets back when the frame starts or is dropped, such as the frame's octets.
     pub load: T,
 }
 
 /// Reason why a port drops a copy of a frame.
 #[derive(Clone, Copy, Debug, PartialEq, Eq, Error)]
 pub enum Refusal {
-    /// Under a list of the port, the class is never open for the transmission time.
+    /// At least one list of the port never opens the class for the whole transmission time.
     #[error("the frame fits in no window")]
     NeverFits,
     /// The queue of the class is full.
@@ -25,7 +25,8 @@ pub enum Refusal {
 }
 
 impl Refusal {
-    /// Returns the number of the refusal, in the order of the tests: 1 for `NeverFits`, 2 for `Full`. Contracts compare refusals by it.
+    /// Returns the number of the refusal, in the order of the tests: 1 for `NeverFits`, 2 for `Full`. Contracts compare refusals by this
+    /// number.
     pub fn number(self) -> u8
         ensures { result ≡ refusal_code self }
     {

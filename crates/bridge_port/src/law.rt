@@ -22,7 +22,7 @@ pub fn lawful_up_to_a_lower_moment<X: Drop>()
         → IsLawful r k xs }
 {}
 
-/// A schedule that is lawful up to time `h` is lawful up to a later time `k`. From `h` to `k`, no head may fit while the link is free.
+/// If no head fits in between while the link is free, a schedule lawful up to `h` is lawful up to a later `k`.
 ///
 /// So a port may skip times without a start.
 pub fn lawful_up_to_a_later_moment<X: Drop>()

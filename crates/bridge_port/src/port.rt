@@ -17,8 +17,8 @@ use std::marker::Model;
 ///
 /// A transmission may span a schedule change if the old list opens its class before the change and the new list after it.
 ///
-/// A port stands for the list of copies offered to it. It stores the earliest start of each head, and the best head. Offers and starts
-/// recompute only changed ones.
+/// A port stands for the list of copies offered to it. It stores the earliest start of each head, and the best head: an offer or start
+/// recomputes only the starts that change.
 #[derive(Drop)]
 pub struct Port<T: Drop, A: Allocator + Copy> {
     /// Speed of the link.
@@ -66,8 +66,8 @@ impl<T: Drop, A: Allocator + Copy> Port<T, A> {
     ghost use Rattle.bridge_port.specs.Solo.{IsFinished};
     ghost use Rattle.bridge_port.specs.StandsFor.{offer_answer, offered_copy, count_queued, idle_state, HasStartedOldest, IsNextStartTime, IsIdle, IsStateSound, IsNextStart, time_limit, HasNoStartEarlier, offered_state, offer_refusal, state_rules, StandsFor, started_state};
 
-    /// Makes an idle port with queue capacities for classes 0 to 7, in frames. Without a list, all classes are always open;
-    /// otherwise bit c of a state opens class c.
+    /// Makes an idle port with queue capacities for classes 0 to 7, in frames. Without a list, all classes are always open; otherwise bit c
+    /// of an entry's state opens class c.
     ///
     /// With a schedule change (8.6.9.4), the old list applies before the change. Each item must fit under both lists. `PortState::new` of
     /// `bridge_relay` calls it.
@@ -134,8 +134,8 @@ impl<T: Drop, A: Allocator + Copy> Port<T, A> {
         }
     }
 
-    /// Offers an item to the queue of `class` at `t` ns. Returns a dropped item with the first reason that applies. The relay calls it for
-    /// each copy of a frame.
+    /// Offers an item to the queue of `class` at `t` ns. Returns a dropped item with the first reason that applies. `PortState::offer` of
+    /// `bridge_relay` calls it for each copy of a frame.
     #[inline(always)]
     pub fn offer(&mut self, t: u64, class: u8, item: Item<T>) -> Result<(), (Item<T>, Refusal)>
         requires class { class < 8 }
@@ -185,8 +185,8 @@ impl<T: Drop, A: Allocator + Copy> Port<T, A> {
         self.best
     }
 
-    /// Returns the time in ns of the next start if nothing more is offered; `None` if all queues are empty. The relay stores this time in
-    /// its agenda.
+    /// Returns the time in ns of the next start if nothing more is offered; `None` if all queues are empty. `Ports` of `bridge_relay`
+    /// stores this time in its agenda.
     pub fn next_start(&self) -> Option<u64>
         ensures due { IsNextStartTime self.now result }
         ensures lawful { (xs : List (Copy (Item T)))
@@ -255,7 +255,8 @@ impl<T: Drop, A: Allocator + Copy> Port<T, A> {
         }
     }
 
-    /// Returns the number of offers so far, at most `MAX_ARRIVALS`. Callers keep it below `MAX_ARRIVALS`, which `offer` requires.
+    /// Returns the number of offers so far, at most `MAX_ARRIVALS`. Tests call it, because `offer` requires that it is below
+    /// `MAX_ARRIVALS`.
     pub fn offered(&self) -> u64
         ensures offered { result ≡ self.now.offered }
         ensures counted { self.now.started + count_queued (λ x. true) self.now ≤ result }
@@ -271,7 +272,8 @@ impl<T: Drop, A: Allocator + Copy> Port<T, A> {
         self.started
     }
 
-    /// Returns the earliest time in ns at which the next offer may be made. Callers of `offer` need it.
+    /// Returns the earliest time in ns at which the next offer may be made. Tests call it before `offer`, which requires this time or a
+    /// later one.
     pub fn earliest(&self) -> u64
         ensures earliest { result ≡ self.now.earliest }
         ensures bounded { result ≤ time_limit self.now.started }

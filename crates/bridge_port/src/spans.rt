@@ -31,7 +31,7 @@ pub struct ClassSpans<A: Allocator + Copy> {
 /// Largest number of spans that a linear search reads; beyond that, binary search is faster.
 const MAX_WALK: usize = 8;
 
-/// Start of the next search in a list: the number of earlier cycles, and the index of the last span of each class. A hint changes
+/// Start of the next search in a list: the number of earlier cycles, and the span that the last search found for each class. A hint changes
 /// no result.
 #[derive(Clone, Copy)]
 pub struct SearchHint {
@@ -216,6 +216,8 @@ fn find_index(spans: &[OpenSpan], last: usize, t: u64) -> usize
 
 /// Returns the offset of time `t` in its cycle of `cycle` ns. `laps` is the number of whole cycles before the last call's time: if it still
 /// is right, no division is needed.
+///
+/// Otherwise the function updates `laps`. `fit_until_stop` calls it.
 #[inline(always)]
 fn phase_in_cycle(laps: &mut u64, cycle: u64, t: u64) -> u64
     requires cycle { 0 < cycle }
@@ -291,9 +293,10 @@ fn fit_until_stop<A: Allocator + Copy>(
     }
 }
 
-/// Returns the earliest time in ns, `from` or later, from which `list` opens `class` for `occ` ns, by stored spans; updates hint `last`.
+/// Returns the earliest time in ns, `from` or later, from which `list` opens `class` for `occ` ns, by stored spans. Updates hint `last`.
 ///
-/// `None` if no span is long enough; `fit_by_spans` and, after a schedule change, `fit_in_changing_list` call it.
+/// Returns `None` if no stored span is long enough. `fit_by_spans` and, for the new list of a schedule change, `fit_in_changing_list` call
+/// it.
 pub fn fit_in_list<A: Allocator + Copy>(
     list: &CyclicList<u8, A>,
     spans: &ClassSpans<A>,
@@ -312,9 +315,9 @@ pub fn fit_in_list<A: Allocator + Copy>(
 }
 
 /// Returns the earliest time in ns, `from` or later, from which the lists of a schedule change open `class` for `occ` ns, by stored spans.
-/// `None` if no span is long enough.
+/// Updates the hints `last`.
 ///
-/// `fit_by_spans` calls it, and keeps the hints `last`.
+/// Returns `None` if no stored span is long enough. `fit_by_spans` calls it.
 pub fn fit_in_changing_list<A: Allocator + Copy>(
     lists: &Joined<u8, A>,
     old: &ClassSpans<A>,

@@ -1,4 +1,4 @@
-//! Finds the next fit in the open times of an egress port's classes.
+//! Finds the next time at which a transmission fits the open times of an egress port's class.
 ghost use Rattle.std.specs.Prelude.{◌≡◌, ◌↔◌, ◌+◌, ◌*◌, ◌<◌, ◌≤◌, ℕ, IfOk, IfSome, Some, true, slice_index_or};
 ghost use Rattle.bridge_cycle.specs.GateControlLists as egress;
 ghost use Rattle.bridge_cycle.specs.Fits.{Fits, IsFirstFit};
@@ -18,11 +18,11 @@ use std::marker::Model;
 /// Precomputed runs and spans of a port's lists, so that a search rarely walks interval by interval.
 #[derive(Drop)]
 struct GateCache<A: Allocator + Copy> {
-    /// Longest window of each class that every list has.
+    /// Longest run of each class; with a schedule change, the shorter run of the two lists.
     runs: [Run; 8],
-    /// Spans of the only list, or of the list before the schedule change.
+    /// Spans of the only list, or of the list before the schedule change; empty without a list.
     old: ClassSpans<A>,
-    /// Spans of the list after the schedule change.
+    /// Spans of the list after the schedule change; empty without a schedule change.
     new: ClassSpans<A>,
 }
 
@@ -82,10 +82,9 @@ fn shorter_runs(one: &[Run; 8], other: &[Run; 8]) -> [Run; 8]
     runs
 }
 
-/// Makes the cache for a port's gate control lists: each class's longest run of open time, and the open spans of each class. With a
-/// schedule change, a class's run is the shorter one of the two lists.
+/// Makes the cache for a port's gate control lists: each class's longest run of open time, and the open spans of each class.
 ///
-/// `new` calls it.
+/// With a schedule change, a class's run is the shorter one of the two lists. `new` calls it.
 fn make_cache<A: Allocator + Copy>(
     alloc: A,
     list: &Option<Egress<A>>,
@@ -165,8 +164,8 @@ fn has_few_entries<A: Allocator + Copy>(list: &Option<Egress<A>>) -> bool {
     }
 }
 
-/// Whether `class` stays open for `occ` ns from `from` on within the kept interval. Tested for short lists only. `earliest_fit` calls it
-/// first.
+/// Whether `class` stays open for `occ` ns from `from` on within the kept interval. Returns false if the lists aren't short. `earliest_fit`
+/// calls it first; `fits_in_turn` calls it too.
 #[inline(always)]
 fn fits_in_kept_turn<A: Allocator + Copy>(
     is_short: bool,
@@ -192,8 +191,10 @@ fn fits_in_kept_turn<A: Allocator + Copy>(
     false
 }
 
-/// Whether `class` stays open for `occ` ns from `from` on within one interval, which is kept. Tested for short lists only. `search_fit`
-/// calls it first.
+/// Whether `class` stays open for `occ` ns from `from` on within the interval that contains `from`; this interval is then kept. Returns
+/// false if the lists aren't short.
+///
+/// `search_fit` calls it first.
 fn fits_in_turn<A: Allocator + Copy>(
     is_short: bool,
     kept: &mut Turn<u8>,

@@ -27,7 +27,8 @@ nth_port slots q = slice_index_or slots (q - 1) None
 abbrev pub port_state : {G A : Type 0} → PortsState G A → ℕ → Option (PortState A)
 port_state p q = nth_port p.slots q
 
--- Holds if a port's state is consistent. Classes are at most 7, queued and dropped copies add up to the offers, and counts of frames fit.
+-- Holds if a port's state is consistent. Classes are at most 7, queued and dropped copies add up to the offers, and malformed, unforwarded
+-- and unfiltered frames are at most all frames.
 pub record IsPortSound {A : Type 0} (s : PortState A) : Type 0 where
   pub classes : (k : ℕ) → k ≤ 7 → slice_index s.classes k < 8
   pub counted : s.count.sent + s.count.dropped ≡ s.port.offered
@@ -53,14 +54,14 @@ HasLaterStarts held p t = (q k : ℕ) → held q ≡ Some k → (t < k) ⊎ ((t 
 abbrev pub CanOffer : {G A : Type 0} → PortsState G A → ℕ → ℕ → Type 0
 CanOffer {G} {A} p q t = (s : PortState A) → port_state p q ≡ Some s → (s.port.earliest ≤ t) × (s.port.offered < MAX_ARRIVALS)
 
--- Holds if port `q` was offered item `x`, answered `result`, and no other port changed.
+-- Holds if port `q`, in state `s`, was offered item `x` for class `c` at time `t` (ns), and answered `result`. No other port changed.
 pub record HasOffered {G A : Type 0} (old new : PortsState G A) (q : ℕ) (s : PortState A) (t c : ℕ) (x : Item (QueuedFrame A)) (result : Result (Unit {0}) Refusal) : Type 0 where
   pub slots : new.slots ≡ slice_set old.slots (q - 1) (Some (offered_port s t c x))
   pub answer : result ≡ offer_result s c x
   pub stands : (xs : List (Copy (Item (QueuedFrame A)))) → StandsFor s.port xs → StandsFor (offered_port s t c x).port (offered_copy s.port t c x ∷ xs)
   pub counts : (f : Item (QueuedFrame A) → Bool) → count_queued f (offered_port s t c x).port ≡ (if is_none (offer_refusal s.port c x) && f x then 1 else 0) + count_queued f s.port
 
--- Holds if port `q` made its next start, and no other port changed.
+-- Holds if port `q`, in state `s`, made its next start `b` at time `k` (ns). No other port changed.
 pub record HasStarted {G A : Type 0} (old new : PortsState G A) (q : ℕ) (s : PortState A) (k : ℕ) (b : StartedFrame A) : Type 0 where
   pub from : 1 ≤ q
   pub there : port_state old q ≡ Some s

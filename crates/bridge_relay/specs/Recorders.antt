@@ -1,4 +1,4 @@
--- The record of a filter while the run goes on.
+-- The record of a filter during a run.
 use Rattle.bridge_port.specs.declared.item.Refusal.{Refusal}
 use Rattle.std.specs.Prelude.{Result, Ok, Err, ℕ, Bool, true, false, ◌+◌, ◌-◌, ◌<◌, ◌≤◌, ◌≡◌, ◌++◌, [], ◌∷◌, nat_eq, max, Option, Some, None, List, length, Vec, vec_len, vec_capacity, if◌then◌else◌}
 use Rattle.std.specs.Map.{lookup}
@@ -61,7 +61,8 @@ abbrev pub update_if_some : {X : Type 0} → Option ℕ → (X → X) → List (
 update_if_some None f xs = xs
 update_if_some (Some n) f xs = update_number n f xs
 
--- The recorders after a port's answer to an offer: a refusal adds a drop to the filter's recorder.
+-- The recorders after a port's answer. A refusal by port `port` adds a drop of frame `own` to the recorder of filter `flow`; any other
+-- answer changes nothing.
 abbrev pub recorders_with_answer : List (ℕ × RecorderState) → Option ℕ → ℕ → ℕ → Result (Unit {0}) Refusal → List (ℕ × RecorderState)
 recorders_with_answer tables flow own port (Ok u) = tables
 recorders_with_answer tables flow own port (Err r) = update_if_some flow (λ t. with_drop t (record { own = own; port = port; refusal = r })) tables

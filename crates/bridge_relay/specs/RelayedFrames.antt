@@ -159,7 +159,7 @@ abbrev pub recorders_with_ruling : Origin → Option Ruling → List (ℕ × Rec
 recorders_with_ruling o None tables = tables
 recorders_with_ruling o (Some r) tables = update_number r.filter (λ t. with_verdict t r.verdict o) tables
 
--- Holds if the optional number is the frame's number among the frames of its filter.
+-- Holds if the optional pair has the ruling and the frame's number among its filter's frames, from 1. `None` without a ruling.
 abbrev pub HasSequence : List (ℕ × RecorderState) → Option Ruling → Option (Ruling × ℕ) → Type 0
 HasSequence tables None None = Unit {0}
 HasSequence tables (Some r) (Some j) = (j.0 ≡ r) × ((t : RecorderState) → lookup (nat_eq r.filter) tables ≡ Some t → j.1 ≡ length t.verdicts + 1)

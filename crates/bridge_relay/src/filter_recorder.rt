@@ -14,7 +14,7 @@ use std::mem;
 /// Largest number of a filter's frames: frame numbers have 32 bits. A run has fewer frames.
 const MAX_FRAMES: usize = 4_294_967_295;
 
-/// A list with fewer items grows by half. A longer list doubles.
+/// Number of items from which a full list doubles. A shorter list grows by half.
 const SHORT_LIST: usize = 1024;
 
 /// Reserves capacity for `more` further items of `list`. Short lists grow by half, because a run with many filters has many short lists.
@@ -130,7 +130,9 @@ impl<A: Allocator + Copy> FilterRecorder<A> {
     }
 
     /// Reserves capacity for one verdict and for `copies` further copies, so that recording them can't fail. Fails if memory runs out, or
-    /// the filter has 4,294,967,295 frames. `filter_recorders` calls it.
+    /// the filter has 4,294,967,295 frames.
+    ///
+    /// `reserve_room` in `filter_recorders.rt` calls it.
     #[inline(always)]
     pub fn reserve_room(&mut self, copies: usize) -> Result<(), NoMemory>
         requires { self.old.owed + copies < 2 ^ 32 }
@@ -158,7 +160,8 @@ impl<A: Allocator + Copy> FilterRecorder<A> {
         Ok(())
     }
 
-    /// Appends a verdict and its frame's origin. Returns the frame's number among the filter's frames, from 1. `filter_recorders` calls it.
+    /// Appends a verdict and its frame's origin. Returns the frame's number among the filter's frames, from 1. `record_verdict` in
+    /// `filter_recorders.rt` calls it.
     #[inline(always)]
     pub fn record_verdict(&mut self, verdict: Verdict, origin: Origin) -> u32
         requires open { self.old.is_open ≡ true }
@@ -176,8 +179,8 @@ impl<A: Allocator + Copy> FilterRecorder<A> {
         self.verdicts.len() as u32
     }
 
-    /// Releases the reservation of `copies` copies of a frame that the filter refused: no port will be offered them. `filter_recorders`
-    /// calls it.
+    /// Releases the reservation of `copies` copies of a frame that the filter refused: they will be offered to no port. `release_room` in
+    /// `filter_recorders.rt` calls it.
     pub fn release_room(&mut self, copies: usize)
         requires { copies ≤ self.old.owed }
         ensures { self.new ≡ record self.old { owed = self.old.owed - copies } }
@@ -195,7 +198,9 @@ impl<A: Allocator + Copy> FilterRecorder<A> {
     }
 
     /// Appends a copy that left, `delay` ns after its frame's arrival, and updates the longest delay. Uses reserved capacity, so it can't
-    /// fail. `filter_recorders` calls it.
+    /// fail.
+    ///
+    /// `record_departure` in `filter_recorders.rt` calls it.
     #[inline(always)]
     pub fn record_departure(&mut self, departure: StoredDeparture, delay: u64)
         requires { 0 < self.old.owed }

@@ -222,8 +222,8 @@ pub fn record_verdict<A: Allocator + Copy>(
     table.record_verdict(verdict, origin)
 }
 
-/// Releases the reservation of `copies` copies of a frame that filter `number` refused. Tries the index `hint` first. `release_room` of the
-/// relay calls it.
+/// Releases the reservation of `copies` copies of a frame that filter `number` refused. Tries the index `hint` first. `Relay::release_room`
+/// calls it.
 #[inline(always)]
 pub fn release_room<A: Allocator + Copy>(
     tables: &mut FilterRecorders<A>,

@@ -62,8 +62,8 @@ fn make_view<A: Allocator + Copy>(
     }
 }
 
-/// Returns the records of the filters in `order`, in the empty list `views`. It has the capacity, so the end of a run allocates no memory.
-/// `finish` calls it.
+/// Returns the records of the filters in `order`, in the empty list `views`. `views` has the capacity, so the end of a run allocates no
+/// memory. `finish` calls it.
 fn make_views<A: Allocator + Copy>(
     alloc: A,
     police: &Police<A>,
@@ -110,8 +110,10 @@ impl<'a, G: Agenda + Drop, A: Allocator + Copy> Relay<'a, G, A> {
         self.ports.assert_agenda();
     }
 
-    /// Ends a run without due starts. Returns records of the filters in `order` and counts of the ports, in the empty lists `filters` and
-    /// `ports`. A protected filter's record depends on its own events only.
+    /// Ends a run in which no start is due. Returns records of the filters in `order` and counts of the ports, in the empty lists `filters`
+    /// and `ports`.
+    ///
+    /// A protected filter's record depends on its own events only.
     pub fn finish(
         self,
         order: &[(u32, FilterPlan)],

@@ -23,7 +23,7 @@ use std::marker::Model;
 pub struct Ports<G: Agenda + Drop, A: Allocator + Copy> {
     /// Ports by number: port n is at index n - 1 of 16, or `None` if the plan lacks it.
     slots: Vec<Option<PortState<A>>, A>,
-    /// Set of the ports that exist: bit n - 1 stands for port n.
+    /// Set of the ports that exist: bit n - 1 is set if the bridge has port n.
     present: u16,
     /// Time in ns of the next start of each port with queued copies.
     agenda: G,
@@ -57,8 +57,8 @@ fn set_next_start<G: Agenda>(agenda: &mut G, port: u8, due: Option<u64>)
     }
 }
 
-/// Changes the next start of port `port` from `before` to `due`. Does nothing if both are equal. `Ports::offer` calls it, because most
-/// offers change no next start.
+/// Changes the next start of port `port` from `before` to `due`, both in ns. Does nothing if they are equal, as after most offers.
+/// `Ports::offer` calls it.
 #[inline(always)]
 fn update_next_start<G: Agenda>(agenda: &mut G, port: u8, before: Option<u64>, due: Option<u64>)
     requires from { 1 ≤ port }
@@ -72,8 +72,10 @@ fn update_next_start<G: Agenda>(agenda: &mut G, port: u8, before: Option<u64>, d
     set_next_start(agenda, port, due);
 }
 
-/// Returns the set of the ports that exist: bit n - 1 stands for port n. `Ports` stores it, so that `count_outputs` needn't look at the
-/// ports. `new` calls it.
+/// Returns the set of the ports that exist: bit n - 1 is set if the bridge has port n. `Ports` stores the set, so that `count_outputs`
+/// needn't look at the ports.
+///
+/// `new` calls it.
 fn present_ports<A: Allocator + Copy>(slots: &[Option<PortState<A>>]) -> u16
     requires { length slots.now ≡ 16 }
     ensures { IsPresentSet slots.now result }

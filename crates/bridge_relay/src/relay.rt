@@ -131,7 +131,7 @@ pub struct Sent<A: Allocator + Copy> {
 
 impl<'a, G: Agenda + Drop, A: Allocator + Copy> Relay<'a, G, A> {
     /// Returns the port and time in ns of the next start, at equal times of the lowest port. Returns `None` if no copy is queued.
-    /// `send_due_frames` of `bridge_core` calls it.
+    /// `send_due_frames` and `Bridge::due` of `bridge_core` call it.
     pub fn due(&self) -> Option<(u8, u64)>
         ensures { IsLeast (G.held self.now.ports.agenda) result }
     {
@@ -164,7 +164,9 @@ impl<'a, G: Agenda + Drop, A: Allocator + Copy> Relay<'a, G, A> {
     }
 
     /// Starts the transmission that is next among all ports, records the departure, and returns the frame. A copy must be queued. Allocates
-    /// no memory. `send_due_frames` of `bridge_core` calls it.
+    /// no memory.
+    ///
+    /// `send_due_frames` and `Bridge::advance` of `bridge_core` call it.
     #[inline(always)]
     pub fn advance(&mut self) -> Sent<A>
         requires { (q k : ℕ) × (G.held self.old.ports.agenda q ≡ Some k) }
@@ -230,8 +232,8 @@ impl<'a, G: Agenda + Drop, A: Allocator + Copy> Relay<'a, G, A> {
         self.earliest = t;
     }
 
-    /// Returns egress ports and filter input of the frame `octets`, which arrived on port `port` at time `at` with length `len`. Otherwise
-    /// returns why it isn't forwarded. `arrive` calls it.
+    /// Returns egress ports and filter input of the frame `octets`, which arrived on port `port` at time `at` with length `len`. If the
+    /// frame isn't forwarded, returns the reason. `arrive` calls it.
     #[inline(always)]
     fn find_destination(&self, at: u64, port: u8, octets: &[u8], len: u32) -> Destination
         requires from { 1 ≤ port }
@@ -263,10 +265,10 @@ impl<'a, G: Agenda + Drop, A: Allocator + Copy> Relay<'a, G, A> {
         Destination::Forwarded { set, call }
     }
 
-    /// Copies `octets` for every port of `set` except the last, which gets the frame's own. Reserves capacity in the filter's recorder
-    /// (index `hint`), and counts the arrival. Without memory, the relay is unchanged.
+    /// Copies `octets` for every existing port of `set` except the last, which gets the frame's own buffer. Reserves capacity in the
+    /// recorder of filter `filter` (index `hint`), and counts the arrival.
     ///
-    /// `arrive` calls it.
+    /// If memory runs out, the relay is unchanged. `arrive` calls it.
     #[inline(always)]
     fn prepare_copies(
         &mut self,
@@ -419,7 +421,9 @@ impl<'a, G: Agenda + Drop, A: Allocator + Copy> Relay<'a, G, A> {
         self.offer_copy(set, number, priority, len, eligible, load, spares);
     }
 
-    /// Offers the last of `copies` to port `number` if both `set` and the bridge have this port; otherwise does nothing.
+    /// Offers the last of `copies`, with the data of `first`, to port `number`. Does nothing unless both `set` and the bridge have this
+    /// port. `offer_copy` explains the other parameters.
+    ///
     /// `offer_several_copies` calls it for each port before the last.
     #[inline(always)]
     fn offer_next_copy(
@@ -464,10 +468,10 @@ impl<'a, G: Agenda + Drop, A: Allocator + Copy> Relay<'a, G, A> {
         }
     }
 
-    /// Offers copies of a frame to the ports of `set`, by rising number. If `eligible` is true, their tags are marked drop eligible. Isn't
-    /// inlined: most frames have one egress port, and `offer_only_copy` handles them.
+    /// Offers copies of a frame of `len` octets with priority `priority` to the ports of `set`, by rising number. If `eligible` is true,
+    /// their tags are marked drop eligible.
     ///
-    /// `offer_copies` calls it.
+    /// Isn't inlined: most frames have one egress port, and `offer_only_copy` handles them. `offer_copies` calls it.
     #[inline(never)]
     fn offer_several_copies(
         &mut self,
@@ -495,8 +499,8 @@ impl<'a, G: Agenda + Drop, A: Allocator + Copy> Relay<'a, G, A> {
         }
     }
 
-    /// Offers the frame `load` with priority `priority` to the port of `set` that the bridge has, if any. If `eligible` is true, first
-    /// marks the frame's tag drop eligible. `offer_copies` calls it.
+    /// Offers the frame `load`, of `len` octets with priority `priority`, to the port of `set` that the bridge has, if any. If `eligible`
+    /// is true, first marks the frame's tag drop eligible. `offer_copies` calls it.
     #[inline(always)]
     fn offer_only_copy(
         &mut self,
@@ -519,10 +523,10 @@ impl<'a, G: Agenda + Drop, A: Allocator + Copy> Relay<'a, G, A> {
         }
     }
 
-    /// Offers copies of a frame with priority `priority` to the ports of `set`, by rising number, with tags drop eligible if `eligible`. An
-    /// empty list has no memory: it is forgotten, which is faster.
+    /// Offers copies of a frame of `len` octets with priority `priority` to the ports of `set`, by rising number. If `eligible` is true,
+    /// marks their tags drop eligible.
     ///
-    /// `relay_frame` calls it.
+    /// If `copies` is empty, it has no memory: forgetting it is faster than dropping it. `relay_frame` calls it.
     #[inline(always)]
     fn offer_copies(
         &mut self,
@@ -569,8 +573,8 @@ impl<'a, G: Agenda + Drop, A: Allocator + Copy> Relay<'a, G, A> {
         self.earliest = t;
     }
 
-    /// Judges a frame by its filter `found`, counts it at its ingress port, and records verdict and origin. Returns the ruling and the
-    /// frame's number within the filter; `None` for an unfiltered frame.
+    /// Judges a frame by its filter `found`, counts it at its ingress port `port`, and records verdict and origin. Returns the ruling and
+    /// the frame's number within the filter; `None` for an unfiltered frame.
     ///
     /// `relay_frame` calls it.
     #[inline(always)]
@@ -703,7 +707,9 @@ impl<'a, G: Agenda + Drop, A: Allocator + Copy> Relay<'a, G, A> {
     }
 
     /// Handles a frame that arrived on port `port`. Octets that no queue accepts return to the pool. If memory runs out, returns the frame
-    /// and leaves the relay unchanged. `handle_arrival` calls it.
+    /// and leaves the relay unchanged.
+    ///
+    /// `handle_arrival`, and `Bridge::arrive` of `bridge_core` call it.
     #[inline(always)]
     pub fn arrive(
         &mut self,

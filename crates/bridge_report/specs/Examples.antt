@@ -21,7 +21,8 @@ unset = record { blocked = false; rx = false; octets = false; red = false }
 abbrev left : Departure
 left = record { own = 1; port = 3; start = 100000; done = 100672 }
 
--- The lines of protected filter 10 without a set flag, a bucket or a drop.
+-- The section of protected filter 10, which has no set flag, no bucket and no dropped copy. `longest` is its longest
+-- delay in ns.
 abbrev told : Counters → List Verdict → List Departure → Option ℕ → List ℕ
 told counters verdicts departures longest = (header_line 10 true ++ (counter_lines counters ++ (flags_line unset ++ bucket_line None)))
     ++ ((queued_line departures [] ++ delay_line longest) ++ ((frame_lines 1 verdicts ++ flat_map departure_line departures) ++ codes "end\n"))
@@ -36,7 +37,8 @@ pub one_frame : told (counted 1) (verdict.Pass None false ∷ []) (left ∷ []) 
 unfolding all_flags digits
 one_frame = refl
 
--- The report section of a record with the given fields has the given lines.
+-- If a record is protected, without a set flag, bucket or dropped copy, its section as filter 10 is `told` of its other
+-- fields.
 pub section_is : {A : Type 0} (view : View A) → view.protected ≡ true → view.flags ≡ unset → view.buckets ≡ None → view.drops.items ≡ []
     → section_text 10 view ≡ told view.counters view.verdicts.items view.departures.items view.delay
 unfolding section_text state_lines copy_lines list_lines

@@ -2,7 +2,7 @@
 use Rattle.std.specs.Prelude.{ℕ, List, Option, Some, None, ⊤}
 use Rattle.std.specs.Io.KnownBytes.{Appends}
 
--- Holds if the known octets `octets` were appended to a sink that hasn't failed. A sink that fails stays failed.
+-- Holds if the sink has failed now (`None`), or if it hadn't failed before and `octets` were appended. A sink that has failed stays failed.
 abbrev pub Grows : Option (Option (List ℕ)) → List ℕ → Option (Option (List ℕ)) → Type 0
 Grows old octets None = ⊤
 Grows None octets (Some new) = ⊥

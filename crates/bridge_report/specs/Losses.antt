@@ -9,7 +9,7 @@ use Rattle.bridge_report.specs.declared.losses.Reason.{Reason}
 use Rattle.bridge_report.specs.declared.losses.Reason.TheVariants as reason
 use Rattle.bridge_report.specs.Section.{count_full, count_never_fits}
 
--- True if a filter refused a frame with this verdict for reason `r`.
+-- True if this verdict refuses a frame for the given reason.
 abbrev pub is_for : Reason → Verdict → Bool
 is_for reason.Blocked verdict.Blocked = true
 is_for reason.Oversize verdict.Oversize = true
@@ -61,12 +61,13 @@ loss_words place l = reason_words place (codes "blocked") l.blocked ++ (reason_w
     ++ (reason_words place (codes "red") l.red ++ (reason_words place (codes "yellow-dropped") l.yellow_dropped
     ++ (reason_words place (codes "full") l.full ++ reason_words place (codes "never") l.never))))))))
 
--- The line of a filter: its number, its losses, its frames, and the reasons.
+-- The line of a filter: its number, the number of its losses, the number of its frames, and each reason with its
+-- number.
 unfoldable pub lost_line : ℕ → ℕ → Losses → List ℕ
 lost_line filter frames l = codes "lost: filter " ++ (decimal filter ++ (codes ", " ++ (decimal (total l) ++ (codes " frames or copies of "
     ++ (decimal frames ++ (codes " frames" ++ (loss_words [] l ++ codes "\n")))))))
 
--- The line of a filter, if the filter is protected and lost a frame or a copy.
+-- The line of a filter if it is protected and lost a frame or a copy; otherwise the empty text.
 abbrev pub line_if : Bool → ℕ → ℕ → Losses → List ℕ
 line_if protected filter frames l = if protected && not (nat_eq (total l) 0) then lost_line filter frames l else []
 

@@ -68,7 +68,7 @@ count_full drops = count_by (λ d. is_full d.refusal) drops
 abbrev pub count_never_fits : List Dropped → ℕ
 count_never_fits drops = count_by (λ d. never_fits d.refusal) drops
 
--- The line with the number of queued copies, which all left, and the numbers of dropped copies by reason.
+-- The line of a filter's copies: how many left (after the word `queued`), and how many ports dropped, by reason.
 abbrev pub queued_line : List Departure → List Dropped → List ℕ
 queued_line departures drops = codes "queued " ++ (decimal (length departures) ++ (codes " full " ++ (decimal (count_full drops)
     ++ (codes " never " ++ (decimal (count_never_fits drops) ++ codes "\n")))))
@@ -87,11 +87,11 @@ abbrev pub frame_lines : ℕ → List Verdict → List ℕ
 frame_lines number [] = []
 frame_lines number (verdict ∷ more) = frame_line number verdict ++ frame_lines (number + 1) more
 
--- The line of a dropped copy: its frame number, its port and the reason.
+-- The line of a dropped copy: its frame's number, the egress port and the reason.
 abbrev pub drop_line : Dropped → List ℕ
 drop_line d = codes "drop " ++ (decimal d.own ++ (codes " port " ++ (decimal d.port ++ (codes " " ++ (refusal_word d.refusal ++ codes "\n")))))
 
--- The line of a copy that left: its frame number, its port, and its start and end in ns.
+-- The line of a copy that left: its frame's number, the egress port, and start and end of its transmission in ns.
 abbrev pub departure_line : Departure → List ℕ
 departure_line d = codes "out " ++ (decimal d.own ++ (codes " port " ++ (decimal d.port
     ++ (codes " start " ++ (decimal d.start ++ (codes " done " ++ (decimal d.done ++ codes "\n")))))))

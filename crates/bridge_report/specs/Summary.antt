@@ -10,12 +10,12 @@ sum_over_ports count ports = sum_by (λ p. count p.1) ports
 abbrev pub total_policed : List (ℕ × PortCount) → ℕ
 total_policed ports = sum_over_ports (λ c. c.frames) ports - sum_over_ports (λ c. c.malformed) ports - sum_over_ports (λ c. c.nowhere) ports - sum_over_ports (λ c. c.unfiltered) ports
 
--- The text with the numbers of frames that arrived, malformed, unforwarded and policed.
+-- The text with the numbers of arrived, malformed, unforwarded (`nowhere`) and policed frames.
 abbrev pub arrivals_text : ℕ → ℕ → ℕ → ℕ → List ℕ
 arrivals_text frames malformed nowhere policed = codes "frames " ++ (decimal frames ++ (codes " malformed " ++ (decimal malformed
     ++ (codes " nowhere " ++ (decimal nowhere ++ (codes " policed " ++ decimal policed))))))
 
--- The text with the number of unfiltered frames, and the numbers of queued and dropped copies.
+-- The text with the number of unfiltered frames, and the numbers of queued (`sent`) and dropped copies.
 abbrev pub copies_text : ℕ → ℕ → ℕ → List ℕ
 copies_text unfiltered sent dropped = codes " unfiltered " ++ (decimal unfiltered ++ (codes " sent " ++ (decimal sent ++ (codes " dropped " ++ (decimal dropped ++ codes "\n")))))
 

@@ -1,4 +1,4 @@
--- Words that a run's report uses for kinds, flags, verdicts and refusals.
+-- Words that a run's report uses for protection of filters, for flags, for verdicts, and for reasons of drops.
 use Rattle.std.specs.Prelude.{ℕ, Bool, true, false, List, codes}
 use Rattle.bridge_filter.specs.declared.Verdict.{Verdict}
 use Rattle.bridge_filter.specs.declared.Verdict.TheVariants as verdict

@@ -80,7 +80,7 @@ impl LineBlock {
         self.prepend(piece);
     }
 
-    /// Returns the block's octets, for sinks that accept octets (`ReportWriter`). `text` calls it.
+    /// Returns the block's octets, for sinks that accept octets (`ReportWriter`). `text` and `BufferedWriter::put_block` call it.
     #[inline(always)]
     pub fn octets(&self) -> &[u8]
         ensures octets { result.now ≡ self.now }

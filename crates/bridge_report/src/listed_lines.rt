@@ -1,4 +1,4 @@
-//! Writes the lines of a section's lists in front of blocks. `lists` fills the blocks.
+//! Writes the lines of a section's lists, each in front of a block's text. `lists.rt` fills the blocks.
 ghost use Rattle.std.specs.Prelude.{◌≡◌, ◌≤◌, ◌+◌, ◌++◌, ℕ, List, codes, length};
 ghost use Rattle.bridge_report.specs.Words.{refusal_word, verdict_word};
 ghost use Rattle.bridge_report.specs.Section.{departure_line, drop_line, frame_line};

@@ -81,7 +81,7 @@ pub fn count_refused(reason: Reason, verdicts: &[StoredVerdict]) -> u64
     verdicts.iter().filter(|v| has_reason(reason, *v)).count() as u64
 }
 
-/// Returns the number of copies that ports dropped because their queue was full.
+/// Returns the number of copies that ports dropped because their queue was full. `put_queued` and `count_losses` call it.
 pub fn count_full(drops: &[StoredDrop]) -> usize
     ensures { result ≡ count_full drops.now }
 {

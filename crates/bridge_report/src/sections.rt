@@ -17,8 +17,8 @@ use std::io::Write;
 /// Buffer size in octets: a writer receives at most this number at once.
 const BUFFER_OCTETS: usize = 262_144;
 
-/// Returns the record of the filter with number `filter` in a run's result, or `None` if the result has no such filter. Tables of networks
-/// need it.
+/// Returns the record of the filter with number `filter` in a run's result, or `None` if the result has no such filter. `hop_run` of
+/// `app_networks`, `section` and `has_section` call it.
 pub fn find_view<A: Allocator>(outcome: &Outcome<A>, filter: u32) -> Option<&View<A>>
     ensures { option_map (λ view. view.now) result ≡ lookup (nat_eq filter) outcome.now.filters.items }
 {
@@ -37,8 +37,8 @@ pub fn has_section<A: Allocator>(outcome: &Outcome<A>, filter: u32) -> bool
     find_view(outcome, filter).is_some()
 }
 
-/// Returns the report section of filter `filter`, which must have a record in the result. Each line ends with a line feed. Callers that
-/// need no whole report call it.
+/// Returns the report section of filter `filter`, which must have a record in the result. Each line ends with a line feed. Only tests call
+/// it: they compare sections.
 pub fn section<A: Allocator + Copy>(
     alloc: A,
     outcome: &Outcome<A>,
@@ -56,7 +56,8 @@ pub fn section<A: Allocator + Copy>(
     text.finish()
 }
 
-/// Returns the report of a run as a text in memory: the sections of all filters, by rising number. Callers that write no file call it.
+/// Returns the report of a run as a text in memory: the sections of all filters, by rising number. Only tests call it: commands use
+/// `write_report`.
 pub fn report<A: Allocator + Copy>(alloc: A, outcome: &Outcome<A>) -> Result<String<A>, NoMemory>
     ensures { IfOk result (λ text. string_bytes text ≡ report_text outcome.now.filters.items) }
 {
@@ -65,8 +66,8 @@ pub fn report<A: Allocator + Copy>(alloc: A, outcome: &Outcome<A>) -> Result<Str
     text.finish()
 }
 
-/// Writes the sections of all filters to `writer`, and returns it flushed. `run` and `net` call it. The only allocation is the buffer of
-/// 262,144 octets.
+/// Writes the sections of all filters to `writer`, and returns it flushed. The only allocation is the buffer of 262,144 octets. `write_to`
+/// of `app_commands` calls it for `run` and `net`.
 pub fn write_report<W: Write + Drop, A: Allocator + Copy>(
     alloc: A,
     outcome: &Outcome<A>,

@@ -303,7 +303,7 @@ not_allowed_beside_another_key = refl
 
 -- Allowed keys.
 
--- Keys: a number, a list, and keys that depend on the list, on a schedule change, and on the next list.
+-- Keys: a number, a list, a key that excludes the list, and keys that need the list, a schedule change or the next list.
 abbrev keys : List KeyRule
 keys = record { 0 = field.Number; 1 = allowed.Switch; 2 = presence.Required } ∷ record { 0 = field.Gates; 1 = allowed.Tables; 2 = presence.Optional } ∷ record { 0 = field.Base; 1 = allowed.Length; 2 = presence.WithList field.Gates }
     ∷ record { 0 = field.NextGates; 1 = allowed.Tables; 2 = presence.WithListInChange field.Gates } ∷ record { 0 = field.NextBase; 1 = allowed.Length; 2 = presence.WithNextList field.Gates field.NextGates } ∷ record { 0 = field.State; 1 = allowed.State; 2 = presence.WithoutKey field.Gates } ∷ []

@@ -114,15 +114,16 @@ abbrev pub add_to_set : ℕ → ℕ → List ℕ → ℕ
 add_to_set low bits [] = bits
 add_to_set low bits (n ∷ ns) = add_to_set low (bit_or bits (2 ^ (n - low))) ns
 
--- Reads an array whose items are integers from `low` to `high` as a set: bit n - `low` stands for n.
+-- Reads an array whose items are integers from `low` to `high` as a set: bit n - `low` is 1 if the array has n.
 unfoldable pub number_set : ℕ → ℕ → Data → Result ℕ Flaw
 number_set low high d = number_array low high d >>= λ ns. Ok (add_to_set low 0 ns)
 
--- True if `set` is a subset of `all`; both are numbers in which each 1 bit stands for one member.
+-- True if `set` is a subset of `all`. Each set is a number: a bit is 1 for each member.
 abbrev pub is_subset : ℕ → ℕ → Bool
 is_subset set all = nat_eq (bit_and set all) set
 
--- Reads an array of port numbers as a set: bit n - 1 stands for port n. A port outside the set `all` is Unresolved.
+-- Reads an array of port numbers as a set: bit n - 1 is 1 if the array has port n. A port outside the set `all` is
+-- Unresolved.
 unfoldable pub known_ports : ℕ → Data → Result ℕ Flaw
 known_ports all (array items) = if not (are_integers items) then Err flaw.WrongKind else if are_in_range 1 16 items && is_subset (add_to_set 1 0 (item_numbers items)) all then Ok (add_to_set 1 0 (item_numbers items)) else Err flaw.Unresolved
 known_ports all _ = Err flaw.WrongKind
@@ -171,7 +172,7 @@ read_optional place key kind members = optional_value place kind (get_member (ke
 unfoldable pub read_or_default : {A : Type 0} → A → KeyLocation → Field → (Data → Result A Flaw) → Members → Result A PlanFault
 read_or_default default place key kind members = value_or_default default place kind (get_member (key_name key) members)
 
--- True if a table of a plan has the key `field`.
+-- True if a table of a plan has the key `key`.
 abbrev pub has_key : Field → Members → Bool
 has_key key members = is_some (get_member (key_name key) members)
 

@@ -45,7 +45,7 @@ abbrev pub document_in : {E : Type 0} → E → Option Members → Result Member
 document_in syntax None = Err syntax
 document_in syntax (Some members) = Ok members
 
--- Document in a text of at most 1,048,576 octets of UTF-8.
+-- Document in a text of at most 1,048,576 octets of UTF-8; otherwise the fault `too_long` or `syntax`.
 abbrev pub document_of : {E : Type 0} → E → E → List ℕ → Result Members E
 document_of too_long syntax text =
     if nat_lt 1048576 (length text) then Err too_long
@@ -110,8 +110,8 @@ items_in not_a_list too_many limit section (Some _) = Err (not_a_list section)
 abbrev pub items_of : {S E : Type 0} → (S → E) → (S → E) → (S → ℕ) → (S → List ℕ) → S → Members → Result Items E
 items_of not_a_list too_many limit spelling section members = items_in not_a_list too_many limit section (get_member (spelling section) members)
 
--- The instances `earlier`, followed by the instances of the items. The first item has index `index`. If the reader
--- refuses a table, its fault.
+-- The instances `earlier`, followed by the instances of the items; the first item has index `index`. If the reader
+-- refuses a table, the result is its fault.
 abbrev pub further_instances : {A E : Type 0} → (List A → ℕ → Members → Result A E) → List A → ℕ → Items → Result (List A) E
 further_instances read earlier index no_items = Ok earlier
 further_instances read earlier index (item (table ms) ds) = read earlier index ms >>= λ x. further_instances read (earlier ++ x ∷ []) (index + 1) ds

@@ -69,7 +69,8 @@ pub fn find_conflict(presence: Presence, has_change: bool, table: &Table) -> Opt
     }
 }
 
-/// Whether `key` has name `name` and is allowed in the table. `is_allowed_name` calls it for each rule.
+/// Whether `key` has name `name` and is allowed in the table. `has_change` is true if the plan has a schedule change. `is_allowed_name`
+/// calls it for each rule.
 fn is_allowed_key(key: &KeyRule, name: &str, has_change: bool, table: &Table) -> bool
     ensures { result ≡ (pointwise nat_eq (key_name key.now.0) name.now
         && spec.is_allowed_presence has_change (table_view table.now) key.now.2) }
@@ -77,7 +78,8 @@ fn is_allowed_key(key: &KeyRule, name: &str, has_change: bool, table: &Table) ->
     key.0.key() == name && find_conflict(key.2, has_change, table).is_none()
 }
 
-/// Whether one of `keys` has name `name` and is allowed in the table. `has_allowed_keys` calls it for each key of the table.
+/// Whether one of `keys` has name `name` and is allowed in the table. `has_change` is true if the plan has a schedule change.
+/// `has_allowed_keys` calls it for each key of the table.
 fn is_allowed_name(keys: &[KeyRule], name: &str, has_change: bool, table: &Table) -> bool
     ensures { result ≡ is_key_name (spec.allowed_keys has_change (table_view table.now) keys.now) name.now }
 {

@@ -7,7 +7,7 @@ use crate::plan_fault::Flaw;
 use crate::value_kinds::ValueKind;
 use toml::Value;
 
-/// Whether each item is an integer, of any size and sign. If not, an array is `WrongKind`. `numbers_flaw` and `read` call it.
+/// Whether each item is an integer, of any size and sign. If not, an array is `WrongKind`. `numbers_flaw` and `KnownPorts::read` call it.
 fn are_integers(items: &[Value]) -> bool
     ensures { result ≡ spec.are_integers (items_view items.now) }
 {
@@ -49,7 +49,9 @@ pub fn are_tables(items: &[Value]) -> bool
 }
 
 /// Returns why an array is refused; `None` if all items are integers from `low` to `high`. An item of a wrong kind is reported before an
-/// integer out of range. `read` calls it.
+/// integer out of range.
+///
+/// `NumberSet::read`, `Classes::read` and `Rooms::read` call it.
 fn numbers_flaw(items: &[Value], low: u64, high: u64) -> Option<Flaw>
     ensures { result ≡ spec.numbers_flaw low high (items_view items.now) }
 {
@@ -82,8 +84,10 @@ pub fn with_bit(bits: u16, k: u64) -> u16
     bits | 1 << k
 }
 
-/// Returns the numbers in `items` as a set: bit `n - low` stands for number n. The caller has tested that each is from `low` to `high`.
-/// `read` calls it.
+/// Returns the numbers in `items` as a set: bit `n - low` is set if number `n` is among them. The caller has tested that each is from `low`
+/// to `high`.
+///
+/// `NumberSet::read` and `KnownPorts::read` call it.
 fn value_set(items: &[Value], low: u64, high: u64) -> u16
     requires order { low ≤ high }
     requires few { high < low + 16 }
@@ -99,8 +103,8 @@ fn value_set(items: &[Value], low: u64, high: u64) -> u16
     bits
 }
 
-/// Array of integers from `low` to `high` as a set: bit `n - low` stands for `n`. At most 16 different numbers; repetitions are
-/// ignored.
+/// Array of integers from `low` to `high` as a set: bit `n - low` is set if the array has `n`. At most 16 different numbers; repetitions
+/// are ignored.
 pub struct NumberSet {
     /// Least number that an item may have.
     pub low: u64,
@@ -129,10 +133,11 @@ impl ValueKind for NumberSet {
     }
 }
 
-/// Array of numbers of ports that the plan has, as a set: bit n - 1 stands for port n. Any other integer is `Unresolved`.
+/// Array of numbers of ports that the plan has, as a set: bit n - 1 is set if the array has n. An array with any other integer is
+/// `Unresolved`.
 #[derive(Clone, Copy)]
 pub struct KnownPorts {
-    /// Ports of the plan: bit n - 1 stands for port n.
+    /// Ports of the plan: bit n - 1 is set if the plan has port n.
     pub all: u16,
 }
 
@@ -165,7 +170,7 @@ impl ValueKind for KnownPorts {
     }
 }
 
-/// Whether an array has eight items: one for each priority or class. `Classes` and `Rooms` refuse other arrays. `read` calls it.
+/// Whether an array has eight items: one for each priority or class. If not, `Classes::read` and `Rooms::read` refuse the array.
 #[tactic(auto, using(crate::proofs::Sets::count_of_view))]
 fn has_eight(items: &[Value]) -> bool
     ensures numbers { result ≡ nat_eq (length (spec.item_numbers (items_view items.now))) 8 }
@@ -174,7 +179,8 @@ fn has_eight(items: &[Value]) -> bool
     items.len() == 8
 }
 
-/// Returns the class of each priority, from priority 0. The caller has tested that `items` are eight integers from 0 to 7. `read` calls it.
+/// Returns the class of each priority, from priority 0. The caller has tested that `items` are eight integers from 0 to 7. `Classes::read`
+/// calls it.
 fn read_classes(items: &[Value]) -> [u8; 8]
     requires eight { length items.now ≡ 8 }
     requires between { spec.are_in_range 0 7 (items_view items.now) ≡ true }
@@ -189,7 +195,7 @@ fn read_classes(items: &[Value]) -> [u8; 8]
 }
 
 /// Returns the queue capacity of each class in frames, from class 0. The caller has tested that `items` are eight integers from 1 to 4,096.
-/// `read` calls it.
+/// `Rooms::read` calls it.
 fn read_rooms(items: &[Value]) -> [u16; 8]
     requires eight { length items.now ≡ 8 }
     requires between { spec.are_in_range 1 4096 (items_view items.now) ≡ true }

@@ -1,4 +1,4 @@
-//! Document in a text, and its sections as arrays of tables.
+//! Parses a text as a TOML document, and returns its sections as arrays of tables.
 ghost use Rattle.std.specs.Prelude.{◌≡◌, ◌<◌, ◌≤◌, IfErr, IfOk, length, nat_le, option_map, true, false};
 ghost use Rattle.toml.specs.View.{view, table_view, items_view};
 ghost use Rattle.bridge_schema.specs.Readers.{is_empty};

@@ -26,8 +26,8 @@ pub struct InstanceTable<'t> {
 }
 
 impl<'t> InstanceTable<'t> {
-    /// Returns the location of `key`, for faults. `InstanceTable::read_required`, `InstanceTable::read_optional` and functions of
-    /// `bridge_config` call it.
+    /// Returns the location of `key`, for faults. The methods of `InstanceTable` that read keys call it, and `read_list_parts` of
+    /// `bridge_config`.
     pub fn locate_key(&self, key: Field) -> KeyLocation
         ensures { result ≡ record { section = self.now.section; index = self.now.index; field = key } }
     {

@@ -1,4 +1,4 @@
-//! Entries of a list inside an instance, table by table.
+//! Reads the entries of a list inside an instance, table by table.
 ghost use Rattle.std.specs.Prelude.{◌≡◌, All, IfErr, IfOk, Result, option_map};
 ghost use Rattle.std.specs.Option.{ForSome};
 ghost use Rattle.toml.specs.Data.{Members};
@@ -54,7 +54,9 @@ where
 }
 
 /// Reads the entries of the array of tables `value` in order, or returns the first fault. If the key is absent, `value` and the result are
-/// `None`. `read_list_parts` of `bridge_config` calls it.
+/// `None`.
+///
+/// Faults of the array itself name its key, `place`. `read_list_parts` of `bridge_config` calls it.
 #[tactic(auto, unfolding(crate::specs::Readers::read_list))]
 pub fn read_list<A: Allocator + Copy, E: ListEntry>(
     alloc: A,

@@ -82,7 +82,7 @@ pub enum Field {
     NextGates,
     /// Open classes of a port's entry, or the state of a stream gate's entry.
     Open,
-    /// Interval of an entry of a list in ns.
+    /// Length of a list entry in ns.
     Ns,
     /// Member ports of a VLAN.
     Members,
@@ -228,7 +228,8 @@ pub struct KeyLocation {
     pub field: Field,
 }
 
-/// Reason why a text isn't a plan. An index counts the instances of a section from 1; at the top level it is 0.
+/// Reason why a text isn't a plan, or isn't a file of commands. An index counts the instances of a section from 1; at the top level it is
+/// 0.
 #[derive(Clone, Copy, Debug, PartialEq, Eq, Error)]
 pub enum PlanFault {
     /// The text isn't a TOML document in UTF-8.
@@ -255,7 +256,7 @@ pub enum PlanFault {
     /// An earlier instance of the section has equal identifying keys. The index is the later instance's.
     #[error("a repeated instance")]
     Duplicate(Section, u32),
-    /// The plan lacks this port, VLAN, gate or meter.
+    /// The plan lacks the port, VLAN, gate, meter or filter that this key names.
     #[error("a number that the plan doesn't have")]
     Unresolved(KeyLocation),
     /// A section has more instances than its limit.

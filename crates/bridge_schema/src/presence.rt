@@ -13,14 +13,14 @@ use crate::reader_fault::ReaderFault;
 use crate::value_kinds::ValueKind;
 use toml::{Table, Value};
 
-/// Returns the value of `key`; `None` if the table lacks the key. Wraps `Table::get`, to give its result a contract.
+/// Returns the value of `key`; `None` if the table lacks the key. Wraps `Table::get`, whose result has no contract.
 pub fn get_value<'a>(table: &'a Table, key: &str) -> Option<&'a Value>
     ensures value { option_map (λ v. view v.now) result ≡ get_member key.now (table_view table.now) }
 {
     table.get(key)
 }
 
-/// Whether a table has `key`. Some keys are required or allowed only next to another key.
+/// Whether a table has `key`. Readers call it for keys that depend on another key.
 pub fn has_key(table: &Table, key: Field) -> bool
     ensures has { result ≡ spec.has_key key (table_view table.now) }
 {

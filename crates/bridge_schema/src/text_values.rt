@@ -15,7 +15,7 @@ pub trait TextMeaning {
     /// Meaning of a text; `None` if the text isn't allowed.
     ghost meaning: { Self → List ℕ → Option Self.Out };
 
-    /// Returns the meaning of a text; `None` if the text isn't allowed. Allocates no memory. The reader of a key's text calls it.
+    /// Returns the meaning of a text; `None` if the text isn't allowed. Allocates no memory. `TextValue::read` calls it.
     fn parse_text(&self, text: &str) -> Option<Self::Out>
         ensures means { result ≡ meaning self.now text.now };
 }

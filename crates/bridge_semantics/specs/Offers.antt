@@ -48,8 +48,8 @@ abbrev pub leaving_octets : Bool → List ℕ → List ℕ
 leaving_octets true octets = drop_eligible_frame octets
 leaving_octets false octets = octets
 
--- Builds the copy of frame `a` for egress port `out`. The internal priority value `ipv`, or, without it, `priority`,
--- gives its class; `eligible` marks its tag drop eligible.
+-- Builds the copy of frame `a`, which is number `own` of filter `flow`, for egress port `out`. The internal priority
+-- value `ipv`, or, without it, `priority`, gives its class; `eligible` marks its tag drop eligible.
 abbrev pub make_offer : {A : Type 0} → PortPlan A → Arrival → ℕ → Option ℕ → ℕ → Option ℕ → Bool → Offer
 make_offer out a priority flow own ipv eligible = record { at = a.at; class = frame_class out ipv priority; item = record { at = a.at; flow = flow; own = own; len = a.len; octets = leaving_octets eligible a.octets } }
 

@@ -150,8 +150,8 @@ pub record IsPortCount {A : Type 0} (p : Plan A) (es : List Event) (q : ℕ) (xs
   pub sent : c.sent ≡ count_by (λ x. is_accepted x.fate) xs
   pub dropped : c.dropped ≡ count_by (λ x. not (is_accepted x.fate)) xs
 
--- Holds if the copies in `lists` form a complete run of the events `es`, and result `o` contains exactly its filter records and port
--- counts. The records rise by filter number, the counts by port number.
+-- Holds if the copies in `lists` are a complete run of the events `es`, and result `o` has exactly its filter records and port counts.
+-- Records rise by filter number, counts by port number.
 pub record IsOutcome {A : Type 0} (p : Plan A) (es : List Event) (lists : ℕ → List (Copy CarriedFrame)) (o : Outcome A) : Type 0 where
   pub moments : ℕ → ℕ
   pub run : IsRun p es moments lists

@@ -5,7 +5,7 @@ use Rattle.bridge_filter.specs.declared.Verdict.TheVariants as verdict
 use Rattle.bridge_semantics.specs.declared.stored_verdict.VerdictKind.{VerdictKind}
 use Rattle.bridge_semantics.specs.declared.stored_verdict.VerdictKind.TheVariants as kind
 
--- The verdict that a stored `VerdictKind` stands for.
+-- The verdict that a run stores as this `VerdictKind`.
 abbrev pub kind_verdict : VerdictKind → Verdict
 kind_verdict kind.Blocked = verdict.Blocked
 kind_verdict kind.Oversize = verdict.Oversize

@@ -41,7 +41,7 @@ pub fn own_queues<A: Allocator + Copy>()
         → (x.item.flow ≡ Some n) ↔ (reaches_queue p f q x.class ≡ true) }
 {}
 
-/// The copies of a protected filter are exactly those that its own events give, each queue with its port to itself. The law holds in every
+/// The copies of a protected filter are exactly those that its own events give if each queue has its port to itself. The law holds in every
 /// complete run of an accepted plan.
 ///
 /// The isolation theorem rests on it.
@@ -75,10 +75,11 @@ pub fn no_other_class_occupies<A: Allocator + Copy>()
         → x.class ≡ c }
 {}
 
-/// The scheduler neither misses nor delays a start of a protected filter's reachable class: the class fares as if alone on the link
-/// (`alone`).
+/// The scheduler neither misses nor delays a start of a protected filter's reachable class. Its copies start as if the class had the link
+/// alone (`alone`).
 ///
-/// Its copies start at the first time that fits (`at_once`, `own`). docs/ISOLATION.md cites it.
+/// Each copy starts at the first time that fits, once it has arrived and the class's previous copy has left (`at_once`, `own`).
+/// docs/ISOLATION.md cites it.
 pub fn starts_as_alone<A: Allocator + Copy>()
     ensures alone { (p : Plan A) (n : ℕ) (f : FilterPlan) (q c h : ℕ) (out : PortPlan A) (xs : List (Copy CarriedFrame))
         → IsPlan p
@@ -187,8 +188,10 @@ pub fn merged_list_is_unique()
     ensures { (streams : ℕ → List Input) (xs ys : List Input) → IsMerged streams xs → IsMerged streams ys → xs ≡ ys }
 {}
 
-/// A filter's own inputs of each stream determine its own events. If two sets of captures differ only in frames of other filters, the own
-/// events are equal. docs/ISOLATION.md cites it.
+/// A filter's own commands, and its own frames on each port, determine its own events. If two sets of captures differ only in frames of
+/// other filters, the own events are equal.
+///
+/// docs/ISOLATION.md cites it.
 pub fn own_by_stream<A: Allocator + Copy>()
     ensures { (p : Plan A) (n : ℕ) (f : FilterPlan) (streams others : ℕ → List Input) (xs ys : List Input)
         → IsMerged streams xs
@@ -282,8 +285,8 @@ pub fn members_change_no_verdict<A: Allocator + Copy>()
         → HaveSamePoliceRecords u v }
 {}
 
-/// A group's own inputs of each stream determine its own events. If two sets of captures differ only in frames of outsiders, the own events
-/// are equal. So only captures of the group's streams matter.
+/// A group's own commands, and its own frames on each port, determine its own events. If two sets of captures differ only in frames of
+/// outsiders, the own events are equal.
 pub fn group_by_stream<A: Allocator + Copy>()
     ensures { (p : Plan A) (group : ℕ) (streams others : ℕ → List Input) (xs ys : List Input)
         → IsMerged streams xs

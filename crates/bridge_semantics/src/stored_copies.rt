@@ -83,8 +83,8 @@ impl Model for StoredDeparture {
 }
 
 impl StoredDeparture {
-    /// Packs a departure into its octets. Its transmission, from `start` to `done` in ns, takes less than 2^24 ns. `Relay::advance` of
-    /// `bridge_relay` calls it.
+    /// Packs the departure of frame `own` from port `port` into its octets. The transmission, from `start` to `done` in ns, takes less than
+    /// 2^24 ns. `Relay::advance` of `bridge_relay` calls it.
     #[inline(always)]
     pub fn new(own: u32, port: u8, start: u64, done: u64) -> StoredDeparture
         requires ordered { start ≤ done }
@@ -140,7 +140,7 @@ impl Model for StoredDrop {
 }
 
 impl StoredDrop {
-    /// Packs a drop into its octets. `record_answer` of `bridge_relay` calls it.
+    /// Packs the drop of frame `own` at port `port` into its octets. `record_answer` of `bridge_relay` calls it.
     pub fn new(own: u32, port: u8, refusal: Refusal) -> StoredDrop
         ensures { result ≡ record { own = own; port = port; refusal = refusal } }
     {

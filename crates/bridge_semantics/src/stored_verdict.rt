@@ -7,7 +7,8 @@ ghost use Rattle.bridge_semantics.specs.Stored.{kind_verdict};
 use bridge_filter::Verdict;
 use std::marker::Model;
 
-/// Verdict without data: one octet. A frame that passes has its internal priority value, 0 to 7, in the name.
+/// Verdict in one octet, without further data. The name of a passing kind ends with the internal priority value, 0 to 7, if the frame has
+/// one.
 #[derive(Clone, Copy, Debug, Drop)]
 pub enum VerdictKind {
     /// An earlier oversize frame blocked the filter.
@@ -67,7 +68,7 @@ pub enum VerdictKind {
 /// Verdict in one octet. A run stores one for each frame of a filter.
 #[derive(Debug, Drop)]
 pub struct StoredVerdict {
-    /// Kind that stands for the verdict.
+    /// Kind from which `verdict` restores the verdict.
     kind: VerdictKind,
 }
 
@@ -92,7 +93,7 @@ impl StoredVerdict {
         }
     }
 
-    /// Returns the kind that stands for the verdict. Counting kinds is faster than counting verdicts.
+    /// Returns the verdict's kind. Counting kinds is faster than counting verdicts.
     #[inline(always)]
     pub fn kind(&self) -> VerdictKind
         ensures { kind_verdict result ≡ self.now }
@@ -145,7 +146,7 @@ fn pass(ipv: Option<u8>, eligible: bool) -> Verdict
     Verdict::Pass { ipv, eligible }
 }
 
-/// Returns the kind that stands for a verdict. `new` calls it.
+/// Returns the kind in which a verdict is stored. `new` calls it.
 #[inline(always)]
 fn verdict_kind(verdict: Verdict) -> VerdictKind
     requires { HasValidPriority verdict }

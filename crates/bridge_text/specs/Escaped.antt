@@ -2,7 +2,7 @@
 use Rattle.std.specs.Prelude.{ℕ, ◌/◌, ◌%◌, Bool, ◌&&◌, ◌||◌, List, [], ◌∷◌, ◌++◌, ◌==◌, chars, codes, encode_utf8, flat_map, if◌then◌else◌, nat_le, nat_lt}
 use Rattle.std.specs.Char.{digit_char}
 
--- Holds if a character is a control character: U+0000 to U+001F, or U+007F to U+009F.
+-- True if a character is a control character: U+0000 to U+001F, or U+007F to U+009F.
 abbrev pub is_control : ℕ → Bool
 is_control c = nat_lt c 32 || (nat_le 127 c && nat_lt c 160)
 

@@ -21,14 +21,15 @@ pub fn value_items<'a>(value: Option<&'a Value>) -> &'a [Value] {
     }
 }
 
-/// Returns the items of the array `section`; no items if the section is absent or isn't an array. `instance_table`, `Instance::position`
-/// and functions of `show_explain` call it.
+/// Returns the items of the array `section`; no items if the section is absent or isn't an array. `instance_table`, `put_too_many` and
+/// others, also in `show_explain`, call it.
 pub fn section_instances<'a>(table: &'a Table, section: &str) -> &'a [Value] {
     value_items(table.get(section))
 }
 
 /// Returns table `index`, counted from 1, of the array `section`. `None` if there is no item with this index, or the item isn't a table.
-/// `table` calls it.
+///
+/// `Instance::table`, and `instance_table` of `show_explain`, call it.
 pub fn instance_table<'a>(table: &'a Table, section: &str, index: u32) -> Option<&'a Table> {
     match section_instances(table, section).get((index as usize).wrapping_sub(1)) {
         Some(Value::Table(table)) => Some(table),
@@ -36,8 +37,8 @@ pub fn instance_table<'a>(table: &'a Table, section: &str, index: u32) -> Option
     }
 }
 
-/// Returns the value at `key`. `None` if there is no table, or the table lacks the key. `value`, `is_twin` and functions of `show_explain`
-/// call it.
+/// Returns the value at `key`. `None` if there is no table, or the table lacks the key. `Instance::value`, `is_twin` and functions of
+/// `show_explain` call it.
 pub fn table_value<'a>(table: Option<&'a Table>, key: &str) -> Option<&'a Value> {
     match table {
         Some(table) => table.get(key),
@@ -66,8 +67,8 @@ pub struct Instance<'a> {
 }
 
 impl<'a> Instance<'a> {
-    /// Finds this instance's table in the document. `None` if the section has no table with this index. `value`, and `put_stray_key` and
-    /// `put_duplicate` of `show_explain` call it.
+    /// Finds this instance's table in the document. `None` if the section has no table with this index. `Instance::value`, and
+    /// `put_stray_key` and `put_duplicate` of `show_explain` call it.
     pub fn table(self) -> Option<&'a Table> {
         instance_table(self.document.table, self.section, self.index)
     }
@@ -79,7 +80,9 @@ impl<'a> Instance<'a> {
     }
 
     /// Returns the position of `key`, or of the table's header if the key isn't found. `None` if a table of the section has no header of
-    /// its own. `Instance::put_place` calls it.
+    /// its own.
+    ///
+    /// `Instance::put_place` and `put_too_many` call it.
     pub fn position(self, key: Option<&str>) -> Option<Position> {
         let (text, count) = (
             self.document.text,
@@ -132,8 +135,8 @@ pub fn put_no_list(said: &mut Said, document: Document<'_>, name: &str) {
     fill_with_word(said, advice, 0, name);
 }
 
-/// Writes the position of the first table over `limit`, and the number of tables. `put_fault` and `put_net_fault` of `show_explain` call
-/// it.
+/// Writes the position of the first table over `limit` in `section`, and the number of tables. `put_fault` and `put_net_fault` of
+/// `show_explain` call it.
 pub fn put_too_many(said: &mut Said, document: Document<'_>, section: &str, limit: usize) {
     let most = u32::try_from(limit).unwrap_or(u32::MAX);
     let first = Instance {
@@ -163,7 +166,8 @@ fn is_same_value(one: Option<&Value>, other: Option<&Value>, is_exact: bool) -> 
     }
 }
 
-/// Whether two tables have equal values at each of `keys`. A missing key never matches. `find_duplicate` compares tables by it.
+/// Whether two tables have equal values at each of `keys`. A missing key never matches. `is_same_value` explains `is_exact`.
+/// `find_duplicate` compares tables by it.
 fn is_twin(one: Option<&Table>, other: Option<&Table>, keys: &[&str], is_exact: bool) -> bool {
     for key in keys {
         if !is_same_value(table_value(one, *key), table_value(other, *key), is_exact) {

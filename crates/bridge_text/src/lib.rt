@@ -6,7 +6,7 @@
 //! Callers of the SVG modules give elements with positions, styles and words. The modules write the markup, escape each word, and keep a
 //! picture within 2,000,000 octets.
 //!
-//! They have shapes up to a limit, a page that grows downwards, and spans of time with their axis.
+//! The SVG modules draw shapes up to a limit, a page that grows downwards, and spans of time with their axis.
 
 mod document;
 mod kind;

@@ -1,4 +1,4 @@
-//! Searches the known name nearest to an unknown name.
+//! Finds the known name nearest to an unknown name.
 ghost use Rattle.std.specs.Prelude.{Contains};
 ghost use Rattle.std.specs.Option.{ForSome};
 
@@ -94,7 +94,7 @@ pub fn put_nearest(alloc: Global, said: &mut Said, word: &str, names: &[&str], l
     }
 }
 
-/// Writes the list of the known names. After 16 names, `..` stands for the others; a single name gets a sentence of its own. `put_nearest`
+/// Writes the list of the known names. After 16 names, `..` replaces the others; a single name gets a sentence of its own. `put_nearest`
 /// calls it if no name is near.
 fn put_name_list(said: &mut Said, names: &[&str], listing: Listing) {
     if let [name] = names {

@@ -1,4 +1,4 @@
-//! Texts that begin with the name of a file, and texts escaped to one line.
+//! Texts that begin with the path of a file, and texts escaped to one line.
 ghost use Rattle.std.specs.Prelude.{◌≡◌, IfOk, string_bytes};
 ghost use Rattle.bridge_text.specs.Escaped.{escaped};
 ghost use Rattle.bridge_text.specs.PathPrefix.{StartsWithName};

@@ -84,8 +84,9 @@ fn is_key_line(line: &str, name: &str, key: &str) -> bool {
     }
 }
 
-/// Returns the position of table `index`, from 1, of the array `name`. `None` unless the text has exactly `count` headers of this
-/// array. `position`, and `filter_position` and `port_key_line` of `show_lint` call it.
+/// Returns the position of table `index`, from 1, of the array `name`. `None` unless the text has exactly `count` headers of this array.
+///
+/// `Instance::position`, and `filter_position` and `port_key_line` of `show_lint` call it.
 pub fn table_position(text: &str, name: &str, index: u32, count: usize) -> Option<Position> {
     let mut position = None;
     let mut found = 0usize;
@@ -103,7 +104,7 @@ pub fn table_position(text: &str, name: &str, index: u32, count: usize) -> Optio
 }
 
 /// Returns the position of `key` in the table `name` whose header is on line `header`. `None` if no line of this table sets the key.
-/// `position` and `port_key_line` of `show_lint` call it.
+/// `Instance::position`, and `port_key_line` of `show_lint` call it.
 pub fn key_position(text: &str, name: &str, header: usize, key: &str) -> Option<Position> {
     let mut number = header;
     for line in text.lines().skip(header) {

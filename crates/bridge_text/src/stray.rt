@@ -16,8 +16,8 @@ fn is_listed(names: &[&str], name: &str) -> bool {
     false
 }
 
-/// Writes the first top-level key that is none of `sections`, and the nearest section. Explanations of plans, networks and commands call
-/// it.
+/// Writes the first top-level key that is none of `sections`, and the nearest section. The two functions `put_top_key` of `show_explain`
+/// call it.
 pub fn put_stray_section(
     alloc: Global,
     said: &mut Said,

@@ -78,8 +78,8 @@ impl Page {
         self.bottom = self.bottom_plus(by);
     }
 
-    /// Writes a piece of the current shape: the text of `form` with its numbers and its word. `Page::put_text`, `put_time` and `put_span`
-    /// call it.
+    /// Writes a piece of the current shape: the text of `form` with its numbers and its word. `Page::put_text`, `put_time`, `put_span` and
+    /// functions of `show_picture` call it.
     pub fn add_piece(&mut self, form: &str, numbers: &[u64], word: &str) {
         self.shapes.add_piece(form, numbers, &[word]);
     }
@@ -90,7 +90,8 @@ impl Page {
         self.shapes.add_piece(words, &[], &[]);
     }
 
-    /// Begins a text at the point `x`, `y`. `end_text` ends it. `begin_text_line`, `Page::put_text` and `put_axis_label` call it.
+    /// Begins a text at the point `x`, `y`, in tenths of a pixel. `end_text` ends it. Methods of `Page` and functions of `show_picture`
+    /// call it.
     pub fn begin_text(&mut self, style: &str, x: u64, y: u64) {
         self.shapes.begin_text(style, (x, y));
     }
@@ -102,14 +103,16 @@ impl Page {
         self.begin_text(style, AXIS_LEFT, self.bottom);
     }
 
-    /// Ends a text and its shape. `Page::put_text` and `put_axis_label` call it.
+    /// Ends a text and its shape. `Page::put_text`, `put_axis_label` and functions of `show_picture` call it.
     pub fn end_text(&mut self) {
         self.shapes.end_text();
         self.shapes.end_shape();
     }
 
     /// Draws the text of `form`, with its numbers, at the distance `x` from the left and `by` below the page's lower end. Lengths are
-    /// tenths of a pixel. `put_legend_row` calls it.
+    /// tenths of a pixel.
+    ///
+    /// `put_legend_row` and functions of `show_picture` call it.
     pub fn put_text(&mut self, style: &str, x: u64, by: u64, form: &str, numbers: &[u64]) {
         self.begin_text(style, x, self.bottom_plus(by));
         self.add_piece(form, numbers, "");
@@ -123,13 +126,12 @@ impl Page {
         self.shapes.end_shape();
     }
 
-    /// Begins an element with a title, which viewers show when the pointer rests on it. `end_titled` ends it. Pictures of plans and runs
-    /// call it.
+    /// Begins an element with a title, which viewers show when the pointer rests on it. `end_titled` ends it. Pictures of runs call it.
     pub fn begin_titled(&mut self, style: &str, element: Element) {
         self.shapes.begin_titled(style, element);
     }
 
-    /// Ends an element with a title, and its shape. `element` is the element that was begun. Pictures of plans and runs call it.
+    /// Ends an element with a title, and its shape. `element` is the element that was begun. Pictures of runs call it.
     pub fn end_titled(&mut self, element: Element) {
         self.shapes.end_titled(element);
         self.shapes.end_shape();
@@ -147,7 +149,8 @@ impl Page {
         self.legend_right = AXIS_LEFT;
     }
 
-    /// Draws the sample of a legend row, at most 160 wide and 110 high. Its upper left corner is at `x`, `y`. `put_legend_row` calls it.
+    /// Draws the sample of a legend row, at most 160 wide and 110 high, in tenths of a pixel. Its upper left corner is at `x`, `y`.
+    /// `put_legend_row` calls it.
     fn put_sample(&mut self, sample: Sample, style: &str, x: u64, y: u64) {
         match sample {
             Sample::Nothing => {}
@@ -166,8 +169,8 @@ impl Page {
         }
     }
 
-    /// Draws a legend row. `letters` is the number of its letters, from which its width is estimated; `number` replaces `{0}`. Begins a new
-    /// line if the page is too narrow.
+    /// Draws a legend row. `letters` is the number of its letters, from which its width is estimated; after a sample, `number` replaces
+    /// `{0}`. Begins a new line if the page is too narrow.
     ///
     /// `put_filter_legend` and `put_legend` of `show_picture` call it.
     pub fn put_legend_row(&mut self, row: LegendRow, letters: usize, number: u64) {
@@ -186,7 +189,7 @@ impl Page {
         self.put_text("t", x + 210, 0, words, &[number]);
     }
 
-    /// Writes a time with its unit, with at most three decimals. `clock` gives origin and unit.
+    /// Writes time `at` (ns) with its unit and at most three decimals. `clock` gives origin and unit.
     pub fn put_time(&mut self, clock: TimeScale, at: u64) {
         let (origin, name, thousandth) = clock;
         let thousandths = at.saturating_sub(origin) / thousandth.max(1);
@@ -233,7 +236,8 @@ impl Page {
     /// Draws the time axis below the page's contents, with grid lines and their times. The lines begin at the distance `top` from the
     /// page's upper end, in tenths of a pixel.
     ///
-    /// A tall picture has times above too. Draws a schedule change, if present. `finish_ports` of `show_picture` calls it.
+    /// A tall picture has times above too. Draws the schedule change at `change` ns, if it is present. `finish_ports` of `show_picture`
+    /// calls it.
     pub fn put_axis(&mut self, span: Span, top: u64, change: Option<u64>) {
         let step = span.grid_step();
         let first = (span.from / step).saturating_add(u64::from(span.from % step > 0));
@@ -301,7 +305,8 @@ impl Span {
     }
 }
 
-/// Returns a bar as an element. `add_element`, `put_bar` and `put_sample` call it.
+/// Returns a bar as an element: its left edge `x`, its upper edge `y`, its width and its height, in tenths of a pixel. `put_bar` and
+/// `put_sample` call it.
 fn bar(x: u64, y: u64, width: u64, height: u64) -> Element {
     Element::Bar(Bar {
         x,

@@ -48,14 +48,16 @@ impl Shapes {
     }
 
     /// Writes a piece of the current shape by a form: numbers replace `{0}` to `{9}`, and words replace `{a}` to `{z}`. Writes nothing if
-    /// the picture is full. `put_shape` calls it.
+    /// the picture is full.
+    ///
+    /// Methods of `Shapes` and `Page`, and functions of `net_report` call it.
     pub fn add_piece(&mut self, form: &str, numbers: &[u64], words: &[&str]) {
         if !self.is_full {
             put_form(&mut self.text, form, numbers, words);
         }
     }
 
-    /// Ends the current shape: a new line, or one more omitted shape if the picture is full. `Page::end_text`, `Page::draw` and functions
+    /// Ends the current shape: a new line, or one more omitted shape if the picture is full. `put_shape`, methods of `Page` and functions
     /// of `net_report` call it.
     pub fn end_shape(&mut self) {
         if self.is_full {
@@ -89,8 +91,8 @@ impl Shapes {
     }
 }
 
-/// Returns the text of a form: numbers replace `{0}` to `{9}`, and escaped words replace `{a}` to `{z}`. `text_line` and `finish`, and
-/// `draw_network` of `net_report` call it.
+/// Returns the text of a form: numbers replace `{0}` to `{9}`, and escaped words replace `{a}` to `{z}`. `text_line` and `Page::finish`,
+/// and `draw_network` of `net_report` call it.
 pub fn fill_form(
     alloc: Global,
     form: &str,

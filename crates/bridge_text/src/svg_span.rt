@@ -39,8 +39,8 @@ impl Span {
         along.min(u128::from(line)) as u64
     }
 
-    /// Returns the origin of the span's times: 0, or a round time shortly before a span that starts very late, compared with its duration.
-    /// `time_scale` calls it.
+    /// Returns the origin of the span's times in ns. It is 0, or a round time shortly before the span if the span starts very late,
+    /// compared with its duration. `time_scale` calls it.
     fn origin(self) -> u64 {
         let (from, length) = (self.from, self.duration());
         let digits = (length - 1).checked_ilog10().map_or(0, |it| it + 1);
@@ -49,8 +49,8 @@ impl Span {
         if is_far { from - from % power } else { 0 }
     }
 
-    /// Returns the span's origin and unit: µs below 2 ms, ms below 2 s, otherwise s. `put_duration`, `put_span` and functions of
-    /// `show_picture` call it.
+    /// Returns origin and unit for the span's times: µs for a duration below 2 ms, ms below 2 s, otherwise s. `put_duration`, `put_span`
+    /// and others, also in `show_picture`, call it.
     pub fn time_scale(self) -> TimeScale {
         match self.duration() {
             0..2_000_000 => (self.origin(), "µs", 1),

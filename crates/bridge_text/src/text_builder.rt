@@ -57,7 +57,7 @@ impl<A: Allocator> TextBuilder<A> {
         }
     }
 
-    /// Adds a number in decimal digits. `TextBuilder::put_placeholder` calls it.
+    /// Adds a number in decimal digits. Methods of `TextBuilder`, and functions of `app_failure` and other crates call it.
     pub fn put_number(&mut self, number: u64)
         ensures { HasGrown self.old (decimal number) self.new }
     {
@@ -165,8 +165,8 @@ impl<A: Allocator> TextBuilder<A> {
         }
     }
 
-    /// Adds a template. `{0}` to `{9}` stand for numbers and `{a}` to `{z}` for words, by index. A placeholder without a value adds
-    /// nothing.
+    /// Adds a template with its values: numbers replace `{0}` to `{9}`, and words replace `{a}` to `{z}`, by index. A placeholder without a
+    /// value adds nothing.
     ///
     /// `put_too_many`, `put_position` and functions of `app_commands`, `net_check`, `net_latency` and other crates call it.
     #[tactic(auto, using(crate::proofs::Longer::longer))]

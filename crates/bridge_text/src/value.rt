@@ -13,8 +13,8 @@ const MAX_CHARACTERS: usize = 60;
 /// Largest number of items shown of an array.
 const MAX_ITEMS: usize = 16;
 
-/// Writes a template in which `{0}` stands for `number` and `{a}` for `word`. The template may use only one of them. `Instance::put_place`,
-/// `put_identifying_key` and functions of `show_explain` call it.
+/// Writes `template` with `number` in place of `{0}` and `word` in place of `{a}`. The template may use only one of them. Many functions of
+/// `bridge_text` and `show_explain` call it.
 pub fn fill_with_word(said: &mut Said, template: &str, number: u64, word: &str) {
     said.put_template(template, &[number], &[word]);
 }
@@ -102,7 +102,8 @@ pub fn put_value(said: &mut Said, value: &Value) {
     }
 }
 
-/// Writes a sentence that ends with a value, or with `word` if the value is missing. `put_no_list` and functions of `show_explain` call it.
+/// Writes a sentence: `template` with `number` and `name`, then the value, or `word` if the value is missing. `put_no_list` and functions
+/// of `show_explain` call it.
 pub fn put_value_sentence(
     said: &mut Said,
     template: &str,

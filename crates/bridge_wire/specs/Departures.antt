@@ -33,7 +33,7 @@ abbrev pub HaveClass : {X : Type 0} → ℕ → List (Copy X) → Type 0
 HaveClass c [] = Unit {0}
 HaveClass c (x ∷ xs) = (x.class ≡ c) × HaveClass c xs
 
--- Holds if the port has no list, this speed, and this capacity for class 0. Its queued frames have at most their lengths in octets.
+-- Holds if the port has no list, this speed, and this capacity for class 0. No queued frame has more octets than its length.
 pub record IsOneQueue {A : Type 0} (speed : Speed) (room : ℕ) (p : EgressState (Vec ℕ A)) : Type 0 where
   pub list : p.list ≡ Always
   pub pace : p.speed ≡ speed
@@ -52,7 +52,8 @@ pub record HasSent {A : Type 0} (p : EgressState (Vec ℕ A)) (offers : List Off
   pub short : All IsWritable left
   pub free : (d : CapturedFrame) → IsMember d left → d.time ≤ p.free
 
--- Holds if further frames left, and the sink has their records, or after a failure a prefix of them.
+-- Holds if further frames left after the frames `left`. The sink appended their records to its contents `old`, or after a failure a prefix
+-- of these records.
 abbrev pub WritesDepartures : {A : Type 0} → EgressState (Vec ℕ A) → List Offer → ℕ → ℕ → List CapturedFrame → Option (List ℕ) → Option (List ℕ) → Result (Unit {0}) RunFault → Type 0
 WritesDepartures p offers sent full left old new (Ok u) = (gone : List CapturedFrame) × HasSent p offers sent full (left ++ gone) × Appends old new (flat_map written_frame gone)
 WritesDepartures p offers sent full left old new (Err e) = (gone : List CapturedFrame) × HasSent p offers sent full (left ++ gone) × AppendsPrefix old new (flat_map written_frame gone)
@@ -93,8 +94,8 @@ RunsOneMore speed room frames next p count began now (Err e) = StopsAtSink speed
 abbrev pub no_count : WireCount
 no_count = record { frames = 0; malformed = 0; sent = 0; full = 0 }
 
--- Holds if a run is in progress: frames of the capture were taken, the next record is ahead, and the frames that left
--- are written.
+-- Holds if a run is in progress. The frames before the next record were offered or counted, the next record is ahead, and the frames that
+-- left are written.
 pub record IsUnderWay {A : Type 0} (speed : Speed) (room : ℕ) (text : List ℕ) (remaining : Option (List ℕ)) (lane : CaptureReader A) (p : EgressState (Vec ℕ A)) (count : WireCount) (began now : Option (List ℕ)) : Type 0 where
   pub frames : List CapturedFrame
   pub ahead : IsOneAhead lane remaining text frames

@@ -34,7 +34,7 @@ packet_ahead (Some time) place = option_map (λ x. record { time = time; len = x
 abbrev pub queue_reader : {A : Type 0} → CaptureState → Option ℕ → OpenQueue A → CaptureReader A
 queue_reader capture time q = record { number = 1; capture = capture; ahead = packet_ahead time (place_ahead q) }
 
--- Holds if reading into the place ahead finds the next frame, the end or a fault.
+-- Holds if reading into the place ahead finds the frame after the frames `taken`, the end of the capture, or a fault.
 abbrev pub ReadsPlace : {A : Type 0} → CaptureState → OpenQueue A → Option (List ℕ) → List ℕ → List CapturedFrame → Result (Option ℕ) CaptureFault → Type 0
 ReadsPlace capture q remaining text taken (Ok time) = IsOneAhead (queue_reader capture time q) remaining text taken
 ReadsPlace capture q remaining text taken (Err fault) = IsRefusal fault remaining text taken

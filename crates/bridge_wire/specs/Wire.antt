@@ -84,7 +84,7 @@ pub record PassesQueue (speed : Speed) (room : ℕ) (frames : List CapturedFrame
   pub lawful : IsLawful (one_queue speed room) until copies
   pub output : IsOutput speed copies left
 
--- Holds if whole run: every accepted frame has left, and the counts match the frames and their copies.
+-- Holds if the run is complete: every accepted frame has left, and the counts match the frames and their copies.
 pub record IsWireRun (speed : Speed) (room : ℕ) (frames : List CapturedFrame) (left : List CapturedFrame) (count : WireCount) : Type 0 where
   pub copies : List (Copy Frame)
   pub goes : PassesQueue speed room frames copies left
@@ -107,7 +107,7 @@ pub record WiresText (speed : Speed) (room : ℕ) (text : List ℕ) (old new : O
 abbrev pub EndsOrContinues : ℕ → List ℕ → List CapturedFrame → Type 0
 EndsOrContinues until text frames = IsCapture text frames AtEnd ⊎ ((next : CapturedFrame) × HasReadFrames text (frames ++ next ∷ []) × (until ≤ next.time))
 
--- Holds if the frames passed one queue up to the arrival of the last one, and the sink has the capture of the frames that left.
+-- Holds if the frames passed one queue up to the arrival of the last one. The sink has the capture of the frames that left.
 pub record RunsToLastFrame (speed : Speed) (room : ℕ) (frames : List CapturedFrame) (old new : Option (List ℕ)) : Type 0 where
   pub copies : List (Copy Frame)
   pub left : List CapturedFrame
@@ -115,7 +115,8 @@ pub record RunsToLastFrame (speed : Speed) (room : ℕ) (frames : List CapturedF
   pub last : goes.until ≡ last_time 0 frames
   pub writes : Appends old new (written_text left)
 
--- Holds if, after at least one frame, the capture was refused.
+-- Holds if reading the capture stopped with this fault after at least one frame. The sink has the frames that left up to the arrival of the
+-- last one.
 pub record StopsInText (speed : Speed) (room : ℕ) (text : List ℕ) (rest : Option (List ℕ)) (old new : Option (List ℕ)) (fault : CaptureFault) : Type 0 where
   pub frames : List CapturedFrame
   pub some : 1 ≤ length frames

@@ -1,4 +1,4 @@
-//! Writes frames that leave a port to a capture.
+//! Starts the due frames of a queue, and writes their records to the output capture.
 ghost use Rattle.std.specs.Prelude.{◌≡◌, ◌≤◌, ◌<◌, ◌+◌, ◌*◌, ◌^◌, ℕ, true, false, Err, List, Option, OnOk, OnErr, max, length};
 ghost use Rattle.std.specs.Io.KnownBytes.{Appends};
 ghost use Rattle.bridge_capture.specs.Grammar.{CapturedFrame};
@@ -13,8 +13,10 @@ use crate::open_queue::OpenQueue;
 use bridge_capture::{ByteSink, RunFault, SNAP_LENGTH, Writer};
 use std::alloc::Allocator;
 
-/// Starts the oldest frame at `start` ns, and writes it with the end of its transmission. A failed write is the fault `RunFault::Write` of
-/// port 1. `send_due_frames` calls it.
+/// Starts the oldest frame at `start` ns, and writes its record, whose time is the end of transmission. If the write fails, returns
+/// `RunFault::Write` of port 1.
+///
+/// `send_due_frames` calls it.
 #[inline(always)]
 pub fn send_next<W: ByteSink, A: Allocator + Copy>(
     start: u64,
@@ -50,7 +52,7 @@ pub fn send_next<W: ByteSink, A: Allocator + Copy>(
     Err(RunFault::Write { port: 1 })
 }
 
-/// Writes the record of a frame that left, at the end of its transmission. Returns whether the sink accepted all of it. `send_next` calls
+/// Writes the record of a frame whose transmission ends at `done` ns. Returns whether the sink accepted the whole record. `send_next` calls
 /// it.
 #[inline(always)]
 fn write_record<W: ByteSink>(

@@ -20,8 +20,10 @@ use bridge_limits::{END_OF_TIME, MAX_CAPTURED_OCTETS};
 use bridge_port::{Item, LARGEST_ROOM};
 use std::alloc::Allocator;
 
-/// Starts and writes all frames that are due before `time` ns, when the frame ahead arrived. Then offers the frame ahead to the queue;
-/// without a header, it is only counted. `process_frame` calls it.
+/// Starts and writes all frames that are due before `time` ns, when the frame ahead arrived. Then offers the frame ahead to the queue, or
+/// only counts it if its header can't be read.
+///
+/// `process_frame` calls it.
 #[inline(always)]
 fn offer_frame<W: ByteSink, A: Allocator + Copy>(
     speed: Speed,
@@ -129,9 +131,9 @@ fn process_frame<R: ByteSource, W: ByteSink, A: Allocator + Copy>(
 }
 
 /// Sends all frames of a capture through a queue, writes all departures, and returns the counts. The frame ahead arrived at `first` ns;
-/// `None` if there is none. Stops at the first fault.
+/// `first` is `None` if the capture has no frame.
 ///
-/// `wire` calls it.
+/// Stops at the first fault. `wire` calls it.
 fn send_all<R: ByteSource, W: ByteSink, A: Allocator + Copy>(
     speed: Speed,
     first: Option<u64>,
@@ -184,7 +186,8 @@ fn send_all<R: ByteSource, W: ByteSink, A: Allocator + Copy>(
     Ok(count)
 }
 
-/// Returns the frame ahead as its arrival time in ns and an item; without a frame, an empty item. `wire` gives the item to the queue.
+/// Splits the optional frame ahead into its arrival time in ns and an item. Without a frame, returns `None` and an empty item. `wire` gives
+/// the item to the queue.
 fn split_packet<A: Allocator + Copy>(
     alloc: A,
     ahead: Option<Packet<A>>,
@@ -203,13 +206,14 @@ fn split_packet<A: Allocator + Copy>(
     }
 }
 
-/// Sends the frames of a capture through one queue with capacity `room`, always open, on a link of speed `speed`. Writes the
-/// capture of the frames that left, at the ends of their transmissions.
+/// Sends the frames of a capture through one queue with capacity `room`, always open, on a link of speed `speed`. Writes the capture of the
+/// frames that left, at the ends of their transmissions.
 ///
-/// The reader is one record ahead: earlier starts are written before a frame is offered. Nothing is written before the first read.
-/// Frames without a header are only counted.
+/// The reader is one record ahead: earlier starts are written before a frame is offered. Nothing is written before the first read. Frames
+/// without a readable header are only counted.
 ///
 /// Faults of the source are `Capture` of port 1. Faults of the sink are `Write` of port 1; the sink then has a prefix of the capture.
+///
 /// `wire_capture` and `wire_text` of `app_commands` call it.
 pub fn wire<R: ByteSource, W: ByteSink, A: Allocator + Copy>(
     alloc: A,

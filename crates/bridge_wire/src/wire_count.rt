@@ -5,7 +5,7 @@
 pub struct WireCount {
     /// All frames of the capture.
     pub frames: u64,
-    /// Frames without a header; they aren't offered.
+    /// Frames without a readable header; they aren't offered.
     pub malformed: u64,
     /// Frames that the queue accepted; all have left.
     pub sent: u64,

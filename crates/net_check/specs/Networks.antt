@@ -109,8 +109,8 @@ pub record AreLinesOfNetwork {A : Type 0} (f : file.Network) (n : NetworkParts A
   pub are_lines : AreStreamLines n.plans n.links bounds f.links f.streams streams kept
   pub lines_are : lines ≡ accepted_line f ++ streams
 
--- Holds if `lines`, the warnings `told` and `kept` are the output of an accepted network. Its streams are closed, its
--- talkers' periods suit its plans, and each stream with `arrives` is delivered.
+-- Holds if `lines`, the warnings `told` and `kept` are the output of an accepted network. Its streams are closed, its talkers' periods
+-- suit its plans, and each stream whose line has `arrives` is delivered.
 pub record PrintsNetwork (A : Type 0) (lines told : List ℕ) (kept : Bool) : Type 0 where
   pub file : file.Network
   pub plans : List (Plan A)
@@ -137,17 +137,18 @@ is_absolute path = slice_index path 0 == 47
 abbrev pub beside : List ℕ → List ℕ → List ℕ
 beside path file = if is_absolute file then file else in_folder (folder_of path) file
 
--- Holds if the first 1,048,577 octets of the file at `path` describe network `f`, or its octets are unknown. `octets_at` has the known
--- octets.
+-- Holds if network `f` is described by the first 1,048,577 octets of the file at `path`. `octets_at` gives the octets of a file; if it
+-- gives `None`, any network is allowed.
 abbrev pub IsNetworkAt : (List ℕ → Option (List ℕ)) → List ℕ → file.Network → Type 0
 IsNetworkAt octets_at path f = (text : List ℕ) → octets_at path ≡ Some text → network_of_text (take 1048577 text) ≡ Ok f
 
--- Holds if the first 1,048,577 octets of the file at `path` are the text of the accepted plan `plan`, or its octets are unknown.
+-- Holds if `plan` is the accepted plan of the first 1,048,577 octets of the file at `path`. If `octets_at` gives no octets of the file,
+-- any plan is allowed.
 abbrev pub IsPlanAt : {A : Type 0} → (List ℕ → Option (List ℕ)) → List ℕ → Plan A → Type 0
 IsPlanAt octets_at path plan = (text : List ℕ) → octets_at path ≡ Some text → Accepts (take 1048577 text) plan
 
--- Holds if `new` has the plans `old`, followed by an accepted plan. It is the plan of the file at `path`, or this file's octets are
--- unknown.
+-- Holds if `new` has the plans `old`, followed by an accepted plan. It is the plan of the file at `path`. If `octets_at` gives no octets
+-- of this file, any plan is allowed.
 abbrev pub AddsPlanAt : {A : Type 0} → (List ℕ → Option (List ℕ)) → List ℕ → List (Plan A) → List (Plan A) → Type 0
 AddsPlanAt {A} octets_at path old new = (p : Plan A) × (new ≡ old ++ p ∷ []) × IsPlanAt octets_at path p
 
@@ -160,7 +161,7 @@ ArePlansAt {A} octets_at path bridges plans =
 abbrev pub paths_of : List ℕ → List Bridge → List (List ℕ)
 paths_of path bridges = path ∷ map (λ (b : Bridge). beside path b.plan) bridges
 
--- THE FAULTS OF THE COMMAND
+-- THE FAILURES OF A COMMAND
 
 -- Holds if the command's failure is `NoMemory`, or has the fault line of the text fault `e`, which isn't `NoMemory`.
 abbrev pub SaysText : NetFault → Failure → Type 0
@@ -190,7 +191,7 @@ EndsText path f = ⊥
 unfoldable pub plan_lines : List ℕ → List ℕ → List ℕ
 plan_lines name line = codes "network refused: Plan " ++ (name ++ (codes "\n" ++ line))
 
--- Holds if the command's failure is `NoMemory`, or has the lines for a plan of bridge `name` with fault `e`. This fault has exit status 1.
+-- Holds if the command's failure is `NoMemory`, or has the lines for a plan of bridge `name` whose failure `e` has exit status 1.
 abbrev pub SaysPlan : List ℕ → Failure → Failure → Type 0
 SaysPlan name e (fault.Network line) = (fault_status e ≡ 1) × (string_bytes line ≡ plan_lines name (fault_line e))
 SaysPlan name e fault.NoMemory = Unit {0}

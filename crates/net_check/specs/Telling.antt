@@ -17,7 +17,7 @@ use Rattle.net_check.specs.Naming.{bridge_name}
 
 -- FRAMES THAT MAY LOOP
 
--- The number of the optional VLAN in a warning about a loop, or `none` for frames without a tag.
+-- The number of the optional VLAN in a warning about a loop, or `none` for frames whose tag names no VLAN.
 abbrev pub vlan_text : Option ℕ → List ℕ
 vlan_text None = codes "none"
 vlan_text (Some vid) = decimal vid

@@ -29,8 +29,8 @@ abbrev pub entering_text : {A : Type 0} → file.Network → NetworkParts A → 
 entering_text f n i k h p on =
     if may_come_in n.links (nat_eq k 0) h p on then entering_line i k (bridge_name f.bridges h.bridge) on.number else []
 
--- The warnings about ports at which other devices' frames can get the handle of hop `h`, hop `k` of stream `i`. Empty if the plan of its
--- bridge is missing.
+-- The warnings about ports at which other devices' frames can get the handle of hop `h`, hop `k` of stream `i`. Empty if the optional plan
+-- of the hop's bridge is missing.
 abbrev pub entering_at : {A : Type 0} → file.Network → NetworkParts A → ℕ → ℕ → StreamHop → Option (Plan A) → List ℕ
 entering_at f n i k h None = []
 entering_at f n i k h (Some p) = flat_map (entering_text f n i k h p) p.ports
@@ -43,7 +43,7 @@ entering_if f n i true k h = entering_at f n i k h (slice_get n.plans h.bridge)
 
 -- HOPS WITHOUT REACHABLE QUEUE
 
--- True if one of the bounds belongs to a queue of hop `h`, so that the hop's frames can leave the bridge.
+-- True if one of these bounds, listed by bridge, belongs to a queue of hop `h`. Then the hop's frames can leave the bridge.
 abbrev pub has_queue : {A : Type 0} → List (Vec QueueBound A) → StreamHop → Bool
 has_queue bounds h = list_any (is_queue_of_hop h) (bounds_if_any (slice_get bounds h.bridge))
 

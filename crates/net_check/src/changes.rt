@@ -23,8 +23,8 @@ pub(crate) struct Changes {
     pub sends: Vec<SendShift>,
 }
 
-/// Returns the phases of a stream's talker after the changes: the new phases in `sends` or, without any, the talker's own. The search and
-/// `put_talker` call it.
+/// Returns the phases of a stream's talker after the changes. They are the new phases in `sends`, or the talker's own if `sends` has none
+/// for it. `can_meet`, `changed_times`, `relieve_talker` and `put_talker` call it.
 pub(crate) fn changed_phases(sends: &[SendShift], stream: usize, talker: &Talker) -> Phases {
     let mut phases = Phases {
         from: talker.from,
@@ -78,8 +78,10 @@ pub(crate) fn put_phases(changes: &mut Changes, stream: usize, phases: Phases) -
     }
 }
 
-/// Sets the shift of the list at the hop's port in `changes`: `earlier` ns, last used in pass `pass`. Replaces the port's former shift.
-/// `None` if memory runs out. `relieve_list` and `keep_ports` call it.
+/// Sets the shift of the list at the hop's port in `changes` to `earlier` ns, and replaces the port's former shift. `pass` is the pass in
+/// which a late stream uses the port, or `PASSES`.
+///
+/// Returns `None` if memory runs out. `relieve_list` and `keep_ports` call it.
 pub(crate) fn put_shift(
     changes: &mut Changes,
     hop: &HopTimes,

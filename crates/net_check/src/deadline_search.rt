@@ -23,8 +23,10 @@ const PASSES: u32 = 8;
 /// Largest number of changes that `relieve_stream` makes for one stream in one pass.
 const CHANGES: u32 = 16;
 
-/// Returns changes after which each stream that `is_searched` meets its deadline. `explain_network_streams` prints them. Returns `None` if
-/// `PASSES` passes leave a stream late, or if memory runs out.
+/// Returns changes after which each stream that the search may change (`is_searched`) meets its deadline. Returns `None` if some such
+/// stream was late in each of `PASSES` passes, or if memory runs out.
+///
+/// `explain_network_streams` calls it.
 pub(crate) fn find_changes(
     alloc: Global,
     network: &Network<Global>,
@@ -75,7 +77,9 @@ fn searched_streams(
 }
 
 /// Returns whether the search may change a stream. This needs a periodic talker whose frames all pass, at most 64 hops, known delays, and a
-/// deadline that the stream can meet. False without memory.
+/// deadline that the stream can meet.
+///
+/// Returns false if memory runs out.
 ///
 /// `searched_streams` calls it.
 fn is_searched(
@@ -109,8 +113,8 @@ fn is_searched(
     course.passes && can_meet(alloc, &route, stream.deadline())
 }
 
-/// Returns whether a stream would meet its deadline if no frame waited for its transmission. True without a deadline; false if the times
-/// are unknown. `is_searched` calls it.
+/// Returns whether a stream would meet its deadline if no frame waited for its transmission. Returns true without a deadline, and false if
+/// the times are unknown. `is_searched` calls it.
 fn can_meet(alloc: Global, route: &StreamRoute<'_>, deadline: Option<u64>) -> bool
     requires placed { All (λ v. All HasValidPort v.items) route.now.bounds.now }
     requires talker { IsTalker route.now.talker }
@@ -125,8 +129,9 @@ fn can_meet(alloc: Global, route: &StreamRoute<'_>, deadline: Option<u64>) -> bo
     }
 }
 
-/// Changes lists and talkers for each late stream that is `searched`, in pass `pass`. Returns whether no such stream was late, or `None` if
-/// memory runs out. `find_changes` calls it.
+/// Changes lists and talkers for each late stream whose item in `searched` is true. `pass` is the number of the pass, from 0.
+///
+/// Returns whether no such stream was late, or `None` if memory runs out. `find_changes` calls it.
 fn relieve_streams(
     alloc: Global,
     network: &Network<Global>,
@@ -182,8 +187,12 @@ fn relieve_listed_stream(
     relieve_stream(alloc, &route, deadline, index, pass, changes)
 }
 
-/// Changes lists and the talker until stream `index` meets its deadline, or no change helps. Then marks its ports as used in pass `pass`.
-/// Returns whether it needed no change; `None` without memory.
+/// Changes lists and the talker of the stream with index `index`, until the stream meets `deadline` (in ns) or no change helps. Makes at
+/// most `CHANGES` changes.
+///
+/// Then marks the stream's ports as used in pass `pass`.
+///
+/// Returns whether the stream needed no change, or `None` if memory runs out.
 ///
 /// `relieve_listed_stream` calls it.
 fn relieve_stream(
@@ -244,8 +253,10 @@ fn is_in_time(times: &[HopTimes], deadline: u128) -> bool {
     worst_delay(times) <= deadline
 }
 
-/// Returns the hop at which the latest frame waits longest. Ports that a late stream used in pass `pass` count only for the first hop.
-/// `None` if the frame waits at none.
+/// Returns the hop at which a frame that arrives last waits longest. Hops at ports that a late stream used in pass `pass` don't count,
+/// except the first hop.
+///
+/// Returns `None` if the frame waits at no hop that counts.
 ///
 /// `relieve_hop` and `put_costliest_hop` call it.
 pub(crate) fn costliest_hop(
@@ -275,8 +286,10 @@ fn is_kept(shifts: &[ListShift], hop: &HopTimes, pass: u32) -> bool {
     false
 }
 
-/// Removes the latest frame's wait at the costliest hop of stream `index` in pass `pass`: talker later, or list earlier. Returns whether a
-/// change stays. `relieve_stream` calls it.
+/// Removes the wait of the frame that arrives last at the costliest hop. At the first hop, the talker sends later; at other hops, the list
+/// begins earlier.
+///
+/// `index` is the stream's index, and `pass` the number of the pass. Returns whether a change stays. `relieve_stream` calls it.
 fn relieve_hop(
     alloc: Global,
     route: &StreamRoute<'_>,

@@ -19,8 +19,10 @@ use std::alloc::Global;
 use std::rt::Files;
 use toml::Table;
 
-/// Explains why a network with an accepted text is refused: a plan can't be read, or the network has a fault. Reads all files again;
-/// returns `None` if this fails. `app_networks` calls it.
+/// Explains why a network is refused although its text is accepted: a plan can't be read or is refused, or the network has a fault. Reads
+/// all files again.
+///
+/// Returns `None` if this fails or the network is accepted. `explain_network_file` and `explain_refused_network` of `app_networks` call it.
 pub fn explain_network<H: AllocGlobal + Files>(rt: &H, path: &str) -> Option<String> {
     let alloc = rt.alloc();
     let octets = reread_text(rt, path)?;
@@ -40,8 +42,10 @@ pub fn explain_network<H: AllocGlobal + Files>(rt: &H, path: &str) -> Option<Str
     }
 }
 
-/// Returns the beginning of a sentence about plan file `plan`, which can't be read: its position in the network file, and its bridge.
-/// `None` if no bridge names it or memory runs out.
+/// Returns the start of an explanation of the plan file at path `plan`, which can't be read. It gives the path's position in the network
+/// file, and the bridge.
+///
+/// Returns `None` if no bridge names this path or memory runs out.
 ///
 /// `explain_network` calls it.
 fn explain_plan_path(alloc: Global, asked: NetworkText<'_>, plan: &str) -> Option<String> {
@@ -113,8 +117,9 @@ fn loop_lines(
     }
 }
 
-/// Explains why the network of these plans is refused: its first fault, or a talker's period. Returns `None` if it is accepted or memory
-/// runs out. `explain_network` calls it.
+/// Explains why the network of these plans is refused: its first fault, or the first period of a talker that the plans don't suit.
+///
+/// Returns `None` if the network is accepted or memory runs out. `explain_network` calls it.
 fn explain_plans(
     alloc: Global,
     asked: NetworkText<'_>,

@@ -21,7 +21,7 @@ use std::alloc::Global;
 /// an interval.
 const MOST_TURNS: u32 = 257;
 
-/// Window in which a frame is sent: its class is open without a break. Times are in ns from the start of a period.
+/// Window in which the class of a hop's queue is open without a break. Times are in ns from the start of a period.
 #[derive(Clone, Copy)]
 struct Window {
     /// Start of the window in ns, one cycle later, so that it isn't negative.
@@ -32,8 +32,8 @@ struct Window {
     to: u64,
 }
 
-/// Appends the times at each hop for each stream with a periodic talker and known delays. Returns whether a passing stream misses a
-/// deadline that it can meet. `explain_network_streams` calls it.
+/// Appends the times at each hop for each stream with a periodic talker and known delays. Returns whether a stream whose frames all pass
+/// misses a deadline that it can meet. `explain_network_streams` calls it.
 pub(crate) fn put_stream_times(
     alloc: Global,
     said: &mut TextBuilder<Global>,
@@ -54,8 +54,10 @@ pub(crate) fn put_stream_times(
     is_late
 }
 
-/// Appends a stream's times at each hop, for a periodic talker, at most 64 hops and known delays. Returns whether the stream passes, and
-/// misses a deadline that it can meet. `put_stream_times` calls it.
+/// If a stream has a periodic talker, at most 64 hops and known delays, appends its times at each hop. Returns whether all its frames pass
+/// and it misses a deadline that it can meet.
+///
+/// Otherwise appends nothing and returns false. `put_stream_times` calls it.
 fn put_times_of_stream(
     alloc: Global,
     said: &mut TextBuilder<Global>,
@@ -102,7 +104,7 @@ fn put_times_of_stream(
     put_deadline(said, file, stream.deadline(), &times) && course.passes
 }
 
-/// Appends the lines of a stream's hops: one for each queue that a hop's frames enter. `put_times_of_stream` calls it.
+/// Appends the lines of a stream's hops: one line for each queue that the frames of a hop can enter. `put_times_of_stream` calls it.
 fn put_hops(
     said: &mut TextBuilder<Global>,
     file: &NetworkFile<Global>,
@@ -114,7 +116,8 @@ fn put_hops(
     }
 }
 
-/// Appends the line of a hop's queue: arrivals, ends of transmission, longest wait, and the window. `put_hops` calls it.
+/// Appends the line of one queue of a hop: arrivals, ends of transmission, longest wait, and the window if there is one. `put_hops` calls
+/// it.
 fn put_queue_line(
     said: &mut TextBuilder<Global>,
     file: &NetworkFile<Global>,
@@ -158,8 +161,10 @@ fn put_window(said: &mut TextBuilder<Global>, window: Window, leaves: u64) {
     );
 }
 
-/// Returns the window in which the last frame is sent. `None` without a list, with a schedule change, if the class never closes, or after
-/// `END_OF_SEARCHES`. `put_queue_line` calls it.
+/// Returns the window in which the last transmission of a hop's frames ends. Returns `None` without a cyclic list, if the class never
+/// closes, or if the end is after `END_OF_SEARCHES`.
+///
+/// `put_queue_line` calls it.
 fn window_of_hop(plan: &Plan<Global>, hop: &HopTimes) -> Option<Window> {
     let port = plan.port(hop.port)?;
     let time = hop.leaves.to.checked_sub(1)?;
@@ -172,7 +177,7 @@ fn window_of_hop(plan: &Plan<Global>, hop: &HopTimes) -> Option<Window> {
     }
 }
 
-/// Returns the window that contains the time in ns, or `None` if the class never closes. `window_of_hop` calls it.
+/// Returns the window that contains `time`, in ns. Returns `None` if the class is never closed or never open. `window_of_hop` calls it.
 fn window_around_time(list: &CyclicList<u8, Global>, class: u8, time: u64) -> Option<Window>
     requires class { class < 8 }
     requires time { time < END_OF_SEARCHES }
@@ -230,8 +235,9 @@ fn window_end(list: &CyclicList<u8, Global>, class: u8, time: u64) -> u64
     end
 }
 
-/// Appends by how many ns the stream misses its deadline, and why; nothing if it meets it. Returns whether the stream misses a deadline
-/// that it can meet. `put_times_of_stream` calls it.
+/// Appends by how many ns the stream misses its deadline, and why. Appends nothing if the stream meets its deadline or has none.
+///
+/// Returns whether the stream misses a deadline that it can meet. `put_times_of_stream` calls it.
 fn put_deadline(
     said: &mut TextBuilder<Global>,
     file: &NetworkFile<Global>,

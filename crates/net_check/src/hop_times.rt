@@ -87,7 +87,7 @@ pub(crate) struct HopTimes {
     pub passes: bool,
 }
 
-/// Times of the frames in one queue, without the delays at the hops before it. `times_in_queue` adds these delays.
+/// Times of the frames in one queue, without the delays at earlier hops. `times_in_queue` adds these delays.
 #[derive(Clone, Copy)]
 struct QueueTimes {
     /// Earliest and latest end of transmission, in ns from the start of the period.
@@ -108,8 +108,8 @@ pub(crate) fn shift_of_port(shifts: &[ListShift], bridge: u16, port: u8) -> u64 
     earlier
 }
 
-/// Returns the times of a stream's frames in each queue of each hop, first hop first. `sent` has the phases at the first hop. `None` if
-/// phases are unknown or memory runs out.
+/// Returns the times of a stream's frames in each queue of each hop, first hop first. `sent` has the phases at the first hop. Returns
+/// `None` if phases are unknown or memory runs out.
 ///
 /// `can_meet`, `changed_times` and `put_times_of_stream` call it.
 pub(crate) fn hop_times(
@@ -188,8 +188,10 @@ fn put_queues_of_hop(
     Some(())
 }
 
-/// Returns the times of the frames of `arrival` in the queue of `row`; `None` if phases are unknown or the queue is missing. `sent` is the
-/// talker's first phase in ns. `is_first`: first hop.
+/// Returns the times of the frames of `arrival` in the queue of `row`. `sent` is the talker's first phase in ns. `is_first` is true at the
+/// stream's first hop.
+///
+/// Returns `None` if phases are unknown, the plan lacks the filter or the port, or the filter has no `max_sdu`.
 ///
 /// `put_queues_of_hop` calls it.
 fn times_in_queue(
@@ -231,7 +233,7 @@ fn times_in_queue(
     })
 }
 
-/// Returns whether the filter passes each frame of the traffic; false if the plan lacks the filter. `times_in_queue` calls it.
+/// Returns whether the filter passes each frame of the traffic, and false if the plan lacks the filter. `times_in_queue` calls it.
 fn passes_hop(plan: &Plan<Global>, filter: u32, traffic: &Traffic) -> bool
     requires { IsTraffic traffic.now }
 {
@@ -252,7 +254,7 @@ fn longest_transmission(plan: &Plan<Global>, row: &QueueBound, traffic: &Traffic
 
 /// Returns the times of `traffic` in a queue whose list begins earlier by `shift` ns, computed with traffic delayed by `shift` instead.
 ///
-/// `None` if phases are unknown, or a transmission may end after the next period's earliest arrival. `times_in_queue` calls it.
+/// Returns `None` if phases are unknown, or a transmission may end after the next period's earliest arrival. `times_in_queue` calls it.
 fn shifted_times(
     accepted: &Accepted<Global>,
     row: &QueueBound,
@@ -277,9 +279,10 @@ fn shifted_times(
     })
 }
 
-/// Returns `traffic` delayed by `shift` ns, with twice the period, so that the delayed phases lie in one period.
+/// Returns `traffic` delayed by `shift` ns, with twice the period, so that the delayed phases lie in one period. If `shift` is 0, returns
+/// `traffic` unchanged.
 ///
-/// `None` if `shift` reaches the old period or the new period is too long; `shifted_times` calls it.
+/// Returns `None` if `shift` isn't less than the old period, or the new period is too long. `shifted_times` calls it.
 fn shifted_traffic(traffic: &Traffic, shift: u64) -> Option<Traffic>
     requires { IsTraffic traffic.now }
     ensures { IfSome result IsTraffic }

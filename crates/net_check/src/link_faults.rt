@@ -34,8 +34,8 @@ fn is_one_port(one: BridgePort, other: BridgePort) -> bool {
     one.bridge == other.bridge && one.port == other.port
 }
 
-/// Returns the name of the bridge at this end of a link, or an empty text if the bridge is missing. `put_link_end`, `put_speeds` and `put_ports`
-/// call it.
+/// Returns the name of the bridge at this end of a link, or an empty text if the bridge is missing. `put_link_end`, `put_speeds` and
+/// `put_ports` call it.
 fn bridge_name<'a>(asked: NetworkText<'a>, end: BridgePort) -> &'a str {
     match asked.bridge(end.bridge) {
         Some(bridge) => bridge.name(),
@@ -64,8 +64,8 @@ fn first_link_index(links: &[Link], end: BridgePort) -> u64 {
     0
 }
 
-/// Appends the position of end `field` of link `place` in the file, and the end as the file writes it. Explanations of unequal speeds don't
-/// begin like this. `put_ports` and `put_twice` call it.
+/// Appends the position of key `field` of link `place`, from 1, in the network file, and the end that the key names. `put_ports` and
+/// `put_twice` call it.
 fn put_link_end(
     said: &mut TextBuilder<Global>,
     asked: NetworkText<'_>,
@@ -82,8 +82,8 @@ fn put_link_end(
     );
 }
 
-/// Explains a port with two links. Appends which other link ends at the port of `end` of link `place`: an earlier link, or this link
-/// itself. `explain_link_fault` calls it.
+/// Explains a port with two links. `end`, an end of link `place` (from 1), is also an end of an earlier link, or both ends of link `place`
+/// are this port. `explain_link_fault` calls it.
 fn put_twice(
     said: &mut TextBuilder<Global>,
     asked: NetworkText<'_>,
@@ -152,8 +152,8 @@ fn has_port(plans: &[Accepted<Global>], end: BridgePort) -> bool {
     }
 }
 
-/// Explains link `place`, from 1, to a missing port: appends the link's end, and the ports that its bridge has. If memory runs out, the
-/// whole text is discarded. `explain_link_fault` calls it.
+/// Explains link `place`, from 1, one end of which is a missing port: appends this end, and the ports that its bridge has. If memory runs
+/// out, discards the whole text. `explain_link_fault` calls it.
 fn put_ports(
     alloc: Global,
     said: &mut TextBuilder<Global>,

@@ -98,8 +98,8 @@ fn check_periods<A: Allocator + Copy>(
     }
 }
 
-/// Checks a network file with its plans: tests of links and streams, then periods of talkers. Returns the accepted network, the fault
-/// `Network` with its line, or `NoMemory`. All commands for networks call it.
+/// Checks a network file with its plans: tests of links and streams, then periods of talkers. Returns the accepted network, the failure
+/// `Network` with a fault line, or `NoMemory`. All commands for networks call it.
 pub fn check_network_file<A: Allocator + Copy>(
     alloc: A,
     heap: Global,
@@ -189,8 +189,8 @@ fn network_lines<A: Allocator + Copy>(
     Ok(StreamLines { text, kept })
 }
 
-/// Reads the network of the file at `path`. Returns the fault `File` if the file can't be read, `Network` with the line of the text's first
-/// fault, or `NoMemory`. Commands for networks call it.
+/// Reads the network of the file at `path`. Returns the failure `File` if the file can't be read, `Network` with the line of the text's
+/// first fault, or `NoMemory`. Commands for networks call it.
 pub fn read_network<F: ReadFiles>(
     alloc: Global,
     files: &mut F,
@@ -242,7 +242,7 @@ fn is_absolute(path: &str) -> bool
 /// Returns the path of the plan file `file`, which a network file at `path` names. A relative path counts from the network file's folder,
 /// so both can be moved together.
 ///
-/// `explain_plan_path`, `read_plan` and functions of `app_networks` call it.
+/// `explain_plan_path`, `network_paths`, `read_plan` and functions of `app_networks` call it.
 pub fn sibling_path(alloc: Global, path: &str, file: &str) -> Result<String, NoMemory>
     ensures { IfOk result (λ place. string_bytes place ≡ beside path.now file.now) }
 {
@@ -255,8 +255,11 @@ pub fn sibling_path(alloc: Global, path: &str, file: &str) -> Result<String, NoM
     }
 }
 
-/// Returns the command's failure for a refused plan: a line with the bridge's name, then the plan's fault line. Returns `NoMemory` if
-/// `fault` isn't a refusal or memory runs out. `check_bridge_plan` calls it.
+/// Returns the failure of a command whose plan of bridge `name` has the failure `fault`: a line with the name, then the plan's fault line.
+///
+/// Returns `NoMemory` if `fault` doesn't refuse the plan, or memory runs out.
+///
+/// `check_bridge_plan` calls it.
 #[tactic(auto, unfolding(crate::specs::Networks::plan_lines))]
 fn plan_failure(alloc: Global, name: &str, fault: &Failure) -> Failure
     ensures { SaysPlan name.now fault.now result }
@@ -310,7 +313,7 @@ pub(crate) fn read_plan<F: ReadFiles>(
     }
 }
 
-/// Reads the plan of a bridge, and appends it to `plans`. Returns the fault of the plan's file if it can't be read or is refused.
+/// Reads the plan of a bridge, and appends it to `plans`. Returns a failure if the plan can't be read or is refused, or memory runs out.
 /// `read_plans` calls it.
 fn push_plan<F: ReadFiles>(
     alloc: Global,
@@ -333,8 +336,8 @@ fn push_plan<F: ReadFiles>(
     }
 }
 
-/// Reads the plans of the bridges, in order. Returns the fault `File` for a plan that can't be read, `Network` with a refused plan's lines,
-/// or `NoMemory`. Commands for networks call it.
+/// Reads the plans of the bridges, in order. Returns the failure `File` for a plan that can't be read, `Network` with a refused plan's
+/// lines, or `NoMemory`. Commands for networks call it.
 pub fn read_plans<F: ReadFiles>(
     alloc: Global,
     files: &mut F,
@@ -418,8 +421,9 @@ fn describe_network<A: Allocator + Copy>(
     })
 }
 
-/// Checks the network of the file at `path`, with its plans, for `net check`. Returns lines and warnings. Faults come in this order:
-/// network file, plans by bridge, tests of the network, periods of talkers.
+/// Checks the network of the file at `path`, with its plans, for `net check`.
+///
+/// Returns lines and warnings, or the first failure of network file, plans by bridge, tests of the network, or periods of talkers.
 ///
 /// `check_network` of `app_networks` calls it.
 pub fn network_job<F: ReadFiles>(

@@ -94,8 +94,8 @@ fn is_hop<A: Allocator + Copy>(streams: &[Vec<StreamHop, A>], bridge: u16, filte
     false
 }
 
-/// Returns whether frames of a hop of the stream may arrive over the link of port `port` of bridge `bridge`. The hop's frames can leave by
-/// the link's other end. `is_left_out` calls it.
+/// Returns whether frames of one of these hops can arrive over the link of port `port` of bridge `bridge`. Then a hop at the link's other
+/// end has a reachable queue there. `is_left_out` calls it.
 fn is_fed<A: Allocator + Copy>(
     plans: &[Accepted<A>],
     links: &[Link],
@@ -149,8 +149,11 @@ fn can_leave_by_port<A: Allocator + Copy>(plan: &Plan<A>, filter: &FilterPlan, p
     }
 }
 
-/// Returns whether the stray frames' filter is likely a forgotten hop. It is protected, in no stream, and has a hop's handle, or frames of
-/// the stream can arrive on its port. `explain_open_stream` calls it.
+/// Returns whether the stray frames' filter is likely a forgotten hop: it is protected and in no stream.
+///
+/// Also it has the handle of a hop, or frames of the stream can arrive at port `open.from`.
+///
+/// `explain_open_stream` calls it.
 fn is_left_out(
     refused: &RefusedNetwork<Global>,
     hops: &[StreamHop],

@@ -109,8 +109,8 @@ fn put_stream_and_hop(
     );
 }
 
-/// Returns a talker's traffic at hop `place`, from the delays `before` up to the hop before it. `None` if phases are unknown or lie in two
-/// periods, or no link joins the hops.
+/// Returns a talker's traffic at hop `place`, from the delays `before` up to the hop before it. Returns `None` if phases are unknown or lie
+/// in two periods, or no link joins the hops.
 ///
 /// `put_refusable_stream` calls it.
 fn hop_traffic(
@@ -246,8 +246,9 @@ fn put_hop_reason(
     }
 }
 
-/// Appends the first condition that fails for this traffic at a hop with class `class`. If the filter passes it and delays are known
-/// (`has_figures`), the filter may refuse frames of the hop before.
+/// Appends the first condition of the hop's filter that `traffic` doesn't meet. `class` is the class of the hop's first queue.
+///
+/// If the filter passes `traffic` and delays are known (`has_figures`), appends that the filter may not match each frame of the hop before.
 ///
 /// `put_hop_reason` calls it.
 fn put_condition(

@@ -115,8 +115,8 @@ fn put_sender<A: Allocator>(text: &mut TextBuilder<A>, filter: &Option<u32>, fro
     text.put_number(u64::from(from));
 }
 
-/// Returns the name of the bridge with index `bridge`, or an empty text if it is missing. Lines about networks name bridges by it.
-/// `put_queue_line`, `put_costliest_hop` and others call it.
+/// Returns the name of the bridge with index `bridge`, from 0, or an empty text if the bridge is missing. `put_queue_line`,
+/// `put_costliest_hop` and others call it.
 pub(crate) fn bridge_name<'a, A: Allocator + Copy>(
     bridges: &'a [BridgeRow<A>],
     bridge: u16,

@@ -136,8 +136,8 @@ fn has_linked_entry(links: &[LinkRow], bridge: u16, entries: &[StreamEntry], han
     entries.iter().any(|entry| entry.handle == handle && has_link(links, bridge, entry.port))
 }
 
-/// Returns whether frames can get handle `handle` over a link: an entry of the plan, of bridge `bridge`, has the handle and a linked port.
-/// False for `None`. `is_unlisted` calls it.
+/// Returns whether frames can get handle `handle` over a link: a stream entry of bridge `bridge` with this handle is on a linked port.
+/// Returns false for `None`. `is_unlisted` calls it.
 fn is_entered_by_link<A: Allocator + Copy>(
     links: &[LinkRow],
     bridge: u16,
@@ -280,8 +280,8 @@ fn push_sdu_fall_line(text: &mut String, i: usize, k: usize) -> Result<(), Alloc
     write!(text, "max_sdu falls: stream {stream} hop {hop}\n")
 }
 
-/// Returns whether hop `next` has a lower `max_sdu` than hop `before`. Then it refuses some frames that the earlier hop passes. False if a
-/// hop is missing. `is_sdu_falling_at_index` calls it.
+/// Returns whether hop `next` has a lower `max_sdu` than hop `before`. Then it refuses some frames that the earlier hop passes. Returns
+/// false if a hop is missing. `is_sdu_falling_at_index` calls it.
 fn is_sdu_falling<A: Allocator + Copy>(
     plans: &[Accepted<A>],
     before: Option<(u16, u32)>,

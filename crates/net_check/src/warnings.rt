@@ -57,8 +57,8 @@ pub(crate) struct Named<'a, A: Allocator + Copy> {
 }
 
 impl<'a, A: Allocator + Copy> Named<'a, A> {
-    /// Appends the warning `may also come in` if frames of other devices can get the handle of hop `k` of stream `i` at port `on`.
-    /// `push_entry_warnings` calls it.
+    /// Appends the warning `may also come in` if frames of other devices can get the handle of hop `k` of stream `i` at port `on`. Both
+    /// indexes count from 0. `push_entry_warnings` calls it.
     fn push_entering(
         &self,
         text: &mut String,
@@ -103,8 +103,8 @@ impl<'a, A: Allocator + Copy> Named<'a, A> {
         Ok(())
     }
 
-    /// Appends the warnings `may also come in` about hop `k` of stream `i`, both indexes from 0. Only for periodic talkers. Appends nothing
-    /// if the plan is missing. `push_hop` calls it.
+    /// Appends the warnings `may also come in` about hop `k` of stream `i`, both indexes from 0. The stream's talker must be periodic.
+    /// Appends nothing if the plan is missing. `push_hop` calls it.
     fn push_entering_hop(
         &self,
         text: &mut String,
@@ -123,8 +123,8 @@ impl<'a, A: Allocator + Copy> Named<'a, A> {
         }
     }
 
-    /// Appends the warnings about hop `k` of stream `i`: ports where other devices' frames can enter (for a periodic talker), and a missing
-    /// reachable queue. `push_hops` calls it.
+    /// Appends the warnings about hop `k` of stream `i`: ports at which other devices' frames can enter, and a missing reachable queue. The
+    /// former need a `periodic` talker. `push_hops` calls it.
     fn push_hop(
         &self,
         text: &mut String,

@@ -5,7 +5,8 @@ use Rattle.bridge_schema.specs.Readers.{are_tables}
 use Rattle.net_file.specs.declared.network_file.SectionArrays.{SectionArrays}
 use Rattle.net_file.specs.Document as doc
 
--- The items of the code's arrays in the form of these definitions, for contracts of `read_sections`.
+-- The items of the code's arrays as values of the definition `Arrays`, for contracts of `read_arrays` and
+-- `read_sections`.
 abbrev pub items_of_arrays : SectionArrays → doc.Arrays
 items_of_arrays a = record { bridges = items_view a.bridges.now; links = items_view a.links.now; streams = items_view a.streams.now }
 

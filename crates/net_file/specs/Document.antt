@@ -1,4 +1,4 @@
--- The network of a text, or its first fault in order.
+-- The network that a text describes, or the text's first fault.
 use Rattle.std.specs.Prelude.{ℕ, Bool, not, List, [], ◌∷◌, Result, Ok}
 use Rattle.toml.specs.Data.{Items, Members}
 use Rattle.bridge_schema.specs.Readers.{◌>>=◌, is_empty}
@@ -31,7 +31,8 @@ pub record Arrays : Type 0 where
 abbrev pub no_bridges : NetFault
 no_bridges = fault.Missing (record { section = section.Top; index = 0; field = field.Bridge })
 
--- Reads the three sections as arrays of tables, or gives the first fault of the top. It reads no instance yet.
+-- Reads the three sections as arrays of tables, or gives the first fault at the top of the document. It reads no
+-- instance yet.
 unfoldable pub read_arrays : Members → Result Arrays NetFault
 read_arrays members = do
   keys ← provided (has_only_sections net_sections members) (fault.UnknownKey section.Top 0)
@@ -54,7 +55,7 @@ read_sections arrays = do
 abbrev pub network_of_document : Members → Result Network NetFault
 network_of_document members = read_arrays members >>= read_sections
 
--- The TOML document of a text, or the fault TooLong or Syntax.
+-- The TOML document of a text, or the fault `TooLong` or `Syntax`.
 unfoldable pub read_document : List ℕ → Result Members NetFault
 read_document = reading.document_of fault.TooLong fault.Syntax
 

@@ -52,11 +52,12 @@ flaw_fault place flaw.WrongKind = fault.WrongKind place
 flaw_fault place flaw.OutOfRange = fault.OutOfRange place
 flaw_fault place flaw.Unresolved = fault.Unresolved place
 
--- The value of a key, or the fault of its location if the value isn't allowed.
+-- The value of the key at a location, or the fault of this location if the value isn't allowed.
 abbrev pub value_or_fault : {A : Type 0} → NetKeyLocation → Result A Flaw → Result A NetFault
 value_or_fault = reading.at_place flaw_fault
 
--- The value of the required key at a location, or its fault: the key is missing, or its value isn't allowed.
+-- The value of the required key at a location. The fault is `Missing` if the key is absent; a value that isn't allowed has its own
+-- fault.
 abbrev pub required_value : {A : Type 0} → NetKeyLocation → (Data → Result A Flaw) → Option Data → Result A NetFault
 required_value = reading.required_in (λ place. fault.Missing place) flaw_fault
 

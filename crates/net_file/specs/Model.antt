@@ -8,7 +8,8 @@ pub record Bridge : Type 0 where
   pub name : List ℕ
   pub plan : List ℕ
 
--- A stream: its name, hops from talker to listener, optional talker and optional deadline in ns. A hop has a bridge index and a filter number.
+-- A stream: its name, hops from talker to listener, optional talker and optional deadline in ns. A hop has a bridge index and a filter
+-- number.
 pub record Stream : Type 0 where
   pub name : List ℕ
   pub hops : List (ℕ × ℕ)

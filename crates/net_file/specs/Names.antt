@@ -21,7 +21,7 @@ is_valid_name s = (nat_le 1 (length s) && nat_le (length s) 32) && list_all is_n
 abbrev pub is_numeral : List ℕ → Bool
 is_numeral s = nat_lt 0 (length s) && all_ascii_digits s
 
--- The number that text `s` of decimal digits stands for, if it is from `low` to `high`, otherwise `None`.
+-- The number that text `s` of decimal digits has, if it is from `low` to `high`. Otherwise, or for another text, `None`.
 abbrev pub parse_number : ℕ → ℕ → List ℕ → Option ℕ
 parse_number low high s =
     if is_numeral s && (nat_le low (digits_value 10 s) && nat_le (digits_value 10 s) high) then Some (digits_value 10 s) else None
@@ -59,7 +59,7 @@ bridge_index bridges name = bridge_index_from_start 0 bridges name
 abbrev pub IsBridgeIndex : List Bridge → Option ℕ → Type 0
 IsBridgeIndex bridges place = ForSome place (λ k. k < length bridges)
 
--- The index and the number as a pair, or `Unresolved` if no bridge has the name, so that the index is `None`.
+-- The optional index of a bridge and the number `n` as a pair. `Unresolved` if the index is `None`, because no bridge has the name.
 abbrev pub pair_with_number : Option ℕ → ℕ → Result (ℕ × ℕ) Flaw
 pair_with_number None n = Err flaw.Unresolved
 pair_with_number (Some k) n = Ok (k, n)
@@ -69,6 +69,7 @@ abbrev pub resolve_if_named : List Bridge → Option NumberedName → Result (�
 resolve_if_named bridges None = Err flaw.OutOfRange
 resolve_if_named bridges (Some x) = pair_with_number (bridge_index bridges x.name) x.number
 
--- The bridge's index and the number, from `low` to `high`, that text `s` names, or why the text isn't allowed.
+-- The bridge's index and the number, from `low` to `high`, that text `s` names. The flaw is `OutOfRange` for another form, and
+-- `Unresolved` for a missing bridge.
 abbrev pub resolve_numbered_name : List Bridge → ℕ → ℕ → List ℕ → Result (ℕ × ℕ) Flaw
 resolve_numbered_name bridges low high s = resolve_if_named bridges (split_numbered_name low high s)

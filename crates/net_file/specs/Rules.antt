@@ -10,11 +10,11 @@ use Rattle.net_file.specs.declared.talker.Talker.{Talker}
 use Rattle.net_file.specs.Model.{Bridge, Stream, Network}
 use Rattle.net_file.specs.Names.{is_valid_name}
 
--- True if one of these bridges has the name `name`: names must differ, and links may use only such names.
+-- True if one of these bridges has the name `name`. `read_bridge` refuses a second bridge of this name.
 abbrev pub has_bridge : List Bridge → List ℕ → Bool
 has_bridge bridges name = list_any (λ b. bytes_eq b.name name) bridges
 
--- True if one of these streams has the name `name`: names must differ.
+-- True if one of these streams has the name `name`. `read_stream` refuses a second stream of this name.
 abbrev pub has_stream : List Stream → List ℕ → Bool
 has_stream streams name = list_any (λ s. bytes_eq s.name name) streams
 
@@ -23,7 +23,7 @@ pub record AreBridges (bridges : List Bridge) : Type 0 where
   pub names : All (λ b. is_valid_name b.name ≡ true) bridges
   pub own : has_no_duplicate (λ b c. bytes_eq b.name c.name) bridges ≡ true
 
--- Holds if an end is a port, 1 to 16, of one of `count` bridges.
+-- Holds if an end of a link is a port, 1 to 16, of one of `count` bridges.
 pub record IsBridgePort (count : ℕ) (end : ℕ × ℕ) : Type 0 where
   pub bridge : end.0 < count
   pub port_from : 1 ≤ end.1

@@ -20,7 +20,7 @@ use Rattle.net_file.specs.Names.{resolve_numbered_name, is_numbered_name}
 use Rattle.net_file.specs.Keys.{provided, any_text, name_text, value_or_fault, read_required, read_optional, read_or_default, has_only_keys}
 use Rattle.net_file.specs.Rules.{has_bridge, has_stream}
 
--- Returns the fault `e` if `stands` is true: an earlier instance has the name or filter. Otherwise reading continues.
+-- The fault `e` if `stands` is true, which means that an earlier instance has the name or filter. Otherwise reading continues.
 abbrev pub no_duplicate : Bool → NetFault → Result Bool NetFault
 no_duplicate stands e = provided (not stands) e
 
@@ -76,14 +76,14 @@ abbrev pub filter_text : List Bridge → Data → Result (ℕ × ℕ) Flaw
 filter_text bridges (string s) = resolve_numbered_name bridges 0 (2 ^ 32 - 1) s
 filter_text bridges _ = Err flaw.WrongKind
 
--- The hops in `front`, which were read before, and the filters that the items name. If an item isn't allowed, the fault of the first such
--- item.
+-- The hops in `front`, which were read before, followed by the filters that the items name. If an item isn't allowed, the fault of the
+-- first such item.
 abbrev pub resolve_more_hops : NetKeyLocation → List Bridge → List (ℕ × ℕ) → Items → Result (List (ℕ × ℕ)) NetFault
 resolve_more_hops place bridges front no_items = Ok front
 resolve_more_hops place bridges front (item d ds) = value_or_fault place (filter_text bridges d) >>= λ h. resolve_more_hops place bridges (front ++ h ∷ []) ds
 
--- The hops in the value of the key `hops`, or its fault. Kind, number and form of all items are tested before any
--- bridge is looked up.
+-- The hops in the value of the key `hops`, or the fault of this key. Kind, number and form of all items are tested before any bridge is
+-- looked up.
 abbrev pub hops_value : NetKeyLocation → List Bridge → Option Data → Result (List (ℕ × ℕ)) NetFault
 hops_value place bridges None = Err (fault.Missing place)
 hops_value place bridges (Some (array items)) =

@@ -10,7 +10,7 @@ use Rattle.net_file.specs.Keys.{instances, section_items, provided}
 use Rattle.net_file.specs.declared.traffic_row.TalkerRow.{TalkerRow}
 use Rattle.net_file.specs.TrafficRows.{read_row_in_list}
 
--- The items of the document's section of traffic, or the first fault.
+-- The items of the document's section `traffic`, or the first fault at the top of the document.
 unfoldable pub row_items : Members → Result Items NetFault
 row_items members = do
   keys ← provided (has_only_sections (section.Traffic ∷ []) members) (fault.UnknownKey section.Top 0)

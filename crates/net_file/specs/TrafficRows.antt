@@ -55,7 +55,7 @@ read_talker_row index members =
     if is_limited members then (read_limited_row index members >>= λ r. Ok (row.Limited r))
     else (read_row index members >>= λ r. Ok (row.Periodic r))
 
--- True if one of the traffic rows is for filter `filter`: two rows of a filter are a fault.
+-- True if one of the traffic rows is for filter `filter`. A second row of a filter is the fault `Duplicate`.
 abbrev pub has_filter : List TalkerRow → ℕ → Bool
 has_filter rows filter = list_any (λ r. nat_eq (row_filter r) filter) rows
 
@@ -71,7 +71,7 @@ pub record IsRow (r : TrafficRow) : Type 0 where
   pub traffic : IsTraffic r.traffic
   pub deadline : ForSome r.deadline (λ d. d ≤ END_OF_TIME)
 
--- Holds if a row obeys the rules of its kind.
+-- Holds if a row obeys the rules of its kind: periodic traffic, or a limit of frames.
 abbrev pub IsTalkerRow : TalkerRow → Type 0
 IsTalkerRow (row.Periodic r) = IsRow r
 IsTalkerRow (row.Limited r) = IsLimitedRow r

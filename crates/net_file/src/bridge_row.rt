@@ -32,7 +32,7 @@ impl<A: Allocator + Copy> Model for BridgeRow<A> {
 }
 
 impl<A: Allocator + Copy> BridgeRow<A> {
-    /// Returns the name: 1 to 32 letters, digits, `-` and `_`. Lines, links and hops name the bridge by it.
+    /// Returns the name: 1 to 32 letters, digits, `-` and `_`. Lines, links and hops use this name.
     pub fn name(&self) -> &str
         ensures { result.now ≡ self.now.name }
     {

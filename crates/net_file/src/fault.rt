@@ -39,7 +39,7 @@ impl NetSection {
     }
 }
 
-/// Keys of the tables of network and traffic files, and the only required key at the top of a network file, `bridge`.
+/// Keys of the tables of network and traffic files, and `bridge`, the only required key at the top of a network file.
 #[derive(Clone, Copy, Debug, PartialEq, Eq)]
 pub enum NetField {
     /// Section of bridges, at the top.
@@ -155,7 +155,7 @@ pub enum NetFault {
 }
 
 impl NetFault {
-    /// Returns the fault's number, 1 to 11 in the order of the variants. Contracts compare faults by it.
+    /// Returns the fault's number, 1 to 11 in the order of the variants. Contracts compare faults by this number.
     pub fn number(self) -> u8
         ensures { result ≡ fault_code self }
     {

@@ -42,7 +42,7 @@ pub fn refusal_line<A: Allocator + Copy>(
     }
 }
 
-/// Returns the line `no memory`, which has no file kind. Fails with `NoMemory` if memory runs out for the line. `refusal_line` calls it.
+/// Returns the line `no memory`, which names no kind of file. Returns `NoMemory` if memory runs out for the line. `refusal_line` calls it.
 fn no_memory_line<A: Allocator + Copy>(alloc: A) -> Result<String<A>, NoMemory>
     ensures { IfOk result (λ line. string_bytes line ≡ codes "no memory") }
 {
@@ -52,7 +52,8 @@ fn no_memory_line<A: Allocator + Copy>(alloc: A) -> Result<String<A>, NoMemory>
     }
 }
 
-/// Returns the line `KIND refused: NAME` of a fault without location, such as `network refused: Syntax`. `refusal_line` calls it.
+/// Returns the line `KIND refused: NAME`, with `kind` for `KIND`, of a fault without location, such as `network refused: Syntax`.
+/// `refusal_line` calls it.
 fn refusal_text<A: Allocator + Copy>(
     alloc: A,
     kind: &str,

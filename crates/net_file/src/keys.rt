@@ -61,13 +61,13 @@ pub const DEADLINE: NumberRange = NumberRange {
     high: END_OF_TIME,
 };
 
-/// Keys of a bridge's table.
+/// Keys that a bridge's table may have.
 pub const BRIDGE_KEYS: [NetField; 2] = [NetField::Name, NetField::Plan];
 
-/// Keys of a link's table.
+/// Keys that a link's table may have.
 pub const LINK_KEYS: [NetField; 3] = [NetField::One, NetField::Other, NetField::Delay];
 
-/// Keys of a stream's table.
+/// Keys that a stream's table may have.
 pub const STREAM_KEYS: [NetField; 8] = [
     NetField::Name,
     NetField::Hops,
@@ -102,7 +102,7 @@ pub const TRAFFIC_KEYS: [NetField; 10] = [
     NetField::Deadline,
 ];
 
-/// Keys of a traffic row with periodic traffic.
+/// Keys that the table of a row with periodic traffic may have.
 pub const PERIODIC_ROW_KEYS: [NetField; 7] = [
     NetField::Filter,
     NetField::Period,
@@ -113,7 +113,7 @@ pub const PERIODIC_ROW_KEYS: [NetField; 7] = [
     NetField::Deadline,
 ];
 
-/// Keys of a traffic row with a burst and a rate.
+/// Keys that the table of a row with a burst and a rate may have.
 pub const RATE_ROW_KEYS: [NetField; 6] = [
     NetField::Filter,
     NetField::Burst,
@@ -123,7 +123,7 @@ pub const RATE_ROW_KEYS: [NetField; 6] = [
     NetField::Deadline,
 ];
 
-/// Keys of a traffic row with a number of frames in any period.
+/// Keys that the table of a row with a number of frames in any period may have.
 pub const COUNT_ROW_KEYS: [NetField; 6] = [
     NetField::Filter,
     NetField::Frames,
@@ -133,7 +133,7 @@ pub const COUNT_ROW_KEYS: [NetField; 6] = [
     NetField::Deadline,
 ];
 
-/// Keys that give a row a burst and a rate. A row with one of them needs both.
+/// Keys of a burst and a rate. A row with one of them needs both.
 pub const RATE_KEYS: [NetField; 2] = [NetField::Burst, NetField::Rate];
 
 /// Keys that limit a talker's frames. A traffic row with none of them has periodic traffic.

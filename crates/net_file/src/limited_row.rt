@@ -1,4 +1,4 @@
-//! Rows of a traffic file whose talker keeps a burst and a rate, or a number of frames in any period.
+//! Rows of a traffic file with a limit of the talker's frames: a burst and a rate, or a number of frames in any period.
 ghost use Rattle.std.specs.Prelude.{◌≡◌, IfErr, IfOk};
 ghost use Rattle.toml.specs.View.{table_view};
 ghost use Rattle.net_file.specs.declared.fault.NetFault.TheVariants.{NoMemory};
@@ -20,7 +20,7 @@ use toml::Table;
 /// Limit of the frames that a talker sends: a burst and a rate, or a number of frames in any period.
 #[derive(Clone, Copy)]
 pub enum FrameLimit {
-    /// In any w ns, at most the metered octets of the burst and those that the rate allows in w ns.
+    /// In any time of w ns, at most the metered octets of the burst and the octets that the rate allows in w ns.
     Rate {
         /// Burst in metered octets: frames with their frame check sequences, each at least 64.
         burst: u64,
@@ -59,7 +59,7 @@ pub(crate) fn is_limited(table: &Table) -> bool
     has_any_key(table, &LIMIT_KEYS)
 }
 
-/// Returns whether a row with a limit has only keys that suit the limit. A burst or a rate excludes `frames` and `period`.
+/// Returns whether a row with a limit has only keys that suit the limit. With a burst or a rate, it can't have `frames` and `period`.
 /// `read_limited_row` calls it.
 fn has_limited_keys(table: &Table) -> bool
     ensures { result ≡ spec.has_limited_keys (table_view table.now) }
@@ -71,7 +71,7 @@ fn has_limited_keys(table: &Table) -> bool
     }
 }
 
-/// Reads the burst and the rate of row `index`. `read_limit` calls it.
+/// Reads the burst and the rate of row `index`, from 1, or returns the first fault. `read_limit` calls it.
 #[tactic(auto, unfolding(crate::specs::LimitedRows::read_rate))]
 fn read_rate(index: u32, table: &Table) -> Result<FrameLimit, NetFault>
     ensures reads { Gives result (spec.read_rate index (table_view table.now)) }
@@ -83,7 +83,7 @@ fn read_rate(index: u32, table: &Table) -> Result<FrameLimit, NetFault>
     Ok(FrameLimit::Rate { burst, rate })
 }
 
-/// Reads the number of frames and the period of row `index`. `read_limit` calls it.
+/// Reads the number of frames and the period of row `index`, from 1, or returns the first fault. `read_limit` calls it.
 #[tactic(auto, unfolding(crate::specs::LimitedRows::read_count))]
 fn read_count(index: u32, table: &Table) -> Result<FrameLimit, NetFault>
     ensures reads { Gives result (spec.read_count index (table_view table.now)) }
@@ -109,7 +109,7 @@ fn read_limit(index: u32, table: &Table) -> Result<FrameLimit, NetFault>
     }
 }
 
-/// Returns the captured length in octets of the longest frame that keeps a limit. The burst must contain the frame and its frame check
+/// Returns the captured length in octets of the longest frame that can keep a limit. A burst must contain the frame and its frame check
 /// sequence of 4 octets. `read_limited_row` calls it.
 fn limit_longest(limit: FrameLimit) -> u64
     requires limit { IsFrameLimit limit }

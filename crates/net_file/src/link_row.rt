@@ -23,7 +23,7 @@ pub struct LinkRow {
     pub one: (u16, u8),
     /// Port at the other end: the index of its bridge from 0, and its number.
     pub other: (u16, u8),
-    /// Delay of a frame in either direction, in ns.
+    /// Delay in ns of a frame in either direction; 0 if the file has none.
     pub delay: u64,
 }
 

@@ -45,8 +45,8 @@ fn parse_number(text: &str, low: u32, high: u32) -> Option<u32>
     }
 }
 
-/// Returns the text before the first dot and the number after it. Returns `None` without a dot, or without a number from `low` to `high`.
-/// `is_numbered_name` and `resolve_numbered_name` call it.
+/// Returns the text before the first dot and the number after this dot. Returns `None` if the text has no dot, or no number from `low` to
+/// `high` after it. `is_numbered_name` and `resolve_numbered_name` call it.
 fn split_numbered_name(text: &str, low: u32, high: u32) -> Option<(&str, u32)>
     ensures { option_map (λ x. record { name = x.0.now; number = x.1 }) result
         ≡ spec.split_numbered_name low high text.now }
@@ -57,7 +57,9 @@ fn split_numbered_name(text: &str, low: u32, high: u32) -> Option<(&str, u32)>
 }
 
 /// Returns whether a text has the form of a bridge's port or filter: a text, a dot, and a number from `low` to `high`. The bridge may be
-/// missing. `are_numbered_names` calls it.
+/// missing.
+///
+/// `are_numbered_names`, and `is_hop` of `show_explain` call it.
 pub fn is_numbered_name(text: &str, low: u32, high: u32) -> bool
     ensures { result ≡ spec.is_numbered_name low high text.now }
 {
@@ -78,10 +80,9 @@ fn bridge_index<A: Allocator + Copy>(bridges: &[BridgeRow<A>], name: &str) -> Op
     None
 }
 
-/// Returns the bridge's index and the number, `low` to `high`, that a text such as `left.3` names. Another form is `OutOfRange`, a missing
-/// bridge `Unresolved`. Links and hops are read by it.
+/// Returns the bridge's index, from 0, and the number that a text such as `left.3` names. `low` and `high` are the range of the number.
 ///
-/// `read` and `resolve_filter` call it.
+/// A text of another form is `OutOfRange`, and a missing bridge `Unresolved`. `read` and `resolve_filter` call it.
 pub(crate) fn resolve_numbered_name<A: Allocator + Copy>(
     bridges: &[BridgeRow<A>],
     low: u32,

@@ -66,7 +66,7 @@ impl<A: Allocator + Copy> NetworkFile<A> {
     }
 }
 
-/// Arrays of a network's three sections, before any instance is read, because the keys at the top are tested first.
+/// Arrays of the three sections of a network file. No instance has been read, because the keys at the top are tested first.
 #[derive(Clone, Copy)]
 struct SectionArrays<'a> {
     bridges: &'a [Value],
@@ -74,8 +74,8 @@ struct SectionArrays<'a> {
     streams: &'a [Value],
 }
 
-/// Returns the arrays of a network's three sections, or the first fault at the top of the file. Allocates no memory. `parse_network` calls
-/// it.
+/// Returns the arrays of the three sections of a network file, or the first fault at the top of the file. Allocates no memory.
+/// `parse_network` calls it.
 #[tactic(auto, unfolding(crate::specs::Document::read_arrays))]
 fn read_arrays<'a>(table: &'a Table) -> Result<SectionArrays<'a>, NetFault>
     ensures reads { GivesAs items_of_arrays result (doc.read_arrays (table_view table.now)) }
@@ -112,8 +112,7 @@ fn read_arrays<'a>(table: &'a Table) -> Result<SectionArrays<'a>, NetFault>
     })
 }
 
-/// Reads the bridges, then the links, then the streams, because links and hops name bridges. Returns the first fault. `parse_network` calls
-/// it.
+/// Reads the bridges, then links and streams, which name bridges. Returns the first fault if there is one. `parse_network` calls it.
 #[tactic(auto, unfolding(crate::specs::Document::read_sections))]
 fn read_sections<A: Allocator + Copy>(
     alloc: A,
@@ -132,8 +131,8 @@ fn read_sections<A: Allocator + Copy>(
     })
 }
 
-/// Reads the TOML document of a network or traffic file into `heap`. `TooLong` is a text above 1,048,576 octets, `Syntax` a text that isn't
-/// TOML in UTF-8.
+/// Reads the TOML document of a network or traffic file. `heap` holds the document. The fault is `TooLong` for a text above 1,048,576
+/// octets, and `Syntax` for a text that isn't TOML in UTF-8.
 ///
 /// `parse_network`, `parse_traffic` and functions of `net_check` and `net_latency` call it.
 #[tactic(auto, unfolding(crate::specs::Document::read_document))]

@@ -13,7 +13,7 @@ use bridge_schema::{ValueKind, get_value, optional_value, required_value, value_
 use toml::{Table, Value};
 
 /// Reads the value of the required key at `place` from its table. `kind` defines the allowed values. Returns the fault `Missing` if the key
-/// is absent. Allocates no memory. Sections are read by it.
+/// is absent. Allocates no memory.
 ///
 /// `read_rate`, `read_count` and others call it.
 #[tactic(auto, unfolding(crate::specs::Keys::read_required))]
@@ -30,7 +30,7 @@ pub fn read_required<K: ValueKind>(
 }
 
 /// Reads the value of the optional key at `place` from its table. `kind` defines the allowed values. Returns `None` if the key is absent.
-/// Allocates no memory. Sections are read by it.
+/// Allocates no memory.
 ///
 /// `read_limited_row`, `read_deadline` and `read_row` call it.
 #[tactic(auto, unfolding(crate::specs::Keys::read_optional))]
@@ -66,8 +66,8 @@ where
 }
 
 #[tactic(auto, unfolding(crate::specs::Keys::any_text))]
-/// Returns the text `value` of the required key at `place`. The fault is `Missing` without a value, and `WrongKind` for a value of another
-/// kind. `read_text` calls it.
+/// Returns the text of `value`, the value of the required key at `place`. If `value` is `None`, the fault is `Missing`; if it isn't a text,
+/// `WrongKind`. `read_text` calls it.
 fn text_value<'a>(place: NetKeyLocation, value: Option<&'a Value>) -> Result<&'a str, NetFault>
     ensures reads { GivesAs (λ x. x.now) result (spec.required_value place spec.any_text
         (option_map (λ v. view v.now) value.entry)) }
@@ -91,8 +91,10 @@ pub(crate) fn read_text<'a>(table: &'a Table, place: NetKeyLocation) -> Result<&
 }
 
 #[tactic(auto, unfolding(crate::specs::Keys::name_text))]
-/// Returns the name `value` of the required key at `place`. The fault is `Missing` without a value, `OutOfRange` for another text, and
-/// `WrongKind` for another kind. `read_name` calls it.
+/// Returns the name in `value`, the value of the required key at `place`. If `value` is `None`, the fault is `Missing`; if it isn't a text,
+/// `WrongKind`; if the text isn't a name, `OutOfRange`.
+///
+/// `read_name` calls it.
 fn name_value<'a>(place: NetKeyLocation, value: Option<&'a Value>) -> Result<&'a str, NetFault>
     ensures reads { GivesAs (λ x. x.now) result (spec.required_value place spec.name_text
         (option_map (λ v. view v.now) value.entry)) }

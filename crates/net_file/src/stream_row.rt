@@ -50,7 +50,7 @@ impl<A: Allocator + Copy> Model for StreamRow<A> {
 }
 
 impl<A: Allocator + Copy> StreamRow<A> {
-    /// Returns the name: 1 to 32 letters, digits, `-` and `_`. Lines and tables name the stream by it.
+    /// Returns the name: 1 to 32 letters, digits, `-` and `_`. Lines and tables use this name.
     pub fn name(&self) -> &str
         ensures { result.now ≡ self.now.name }
     {
@@ -94,7 +94,8 @@ fn has_stream<A: Allocator + Copy>(streams: &[StreamRow<A>], name: &str) -> bool
     false
 }
 
-/// Returns whether each item is a text. Otherwise the fault of `hops` is `WrongKind`, before any item is resolved. `hops_value` calls it.
+/// Returns whether each item of an array is a text. If not, `hops_value`, which calls it, returns the fault `WrongKind` before it looks up
+/// any bridge.
 fn are_texts(items: &[Value]) -> bool
     ensures { result ≡ sections.are_texts (items_view items.now) }
 {
@@ -106,7 +107,8 @@ fn are_texts(items: &[Value]) -> bool
     true
 }
 
-/// Returns whether each item has a text, a dot and a filter number. Otherwise the fault of `hops` is `OutOfRange`. `hops_value` calls it.
+/// Returns whether each item is a text with a dot and a filter number after it. If not, `hops_value`, which calls it, returns the fault
+/// `OutOfRange`.
 fn are_numbered_names(items: &[Value]) -> bool
     ensures { result ≡ sections.are_numbered_names (items_view items.now) }
 {
@@ -123,8 +125,8 @@ fn are_numbered_names(items: &[Value]) -> bool
     true
 }
 
-/// Returns whether the number of items is allowed as a number of hops, 1 to 64. Otherwise the fault of `hops` is `OutOfRange`. `hops_value`
-/// calls it.
+/// Returns whether an array has 1 to 64 items, as many as a stream may have hops. If not, `hops_value`, which calls it, returns the fault
+/// `OutOfRange`.
 #[tactic(auto, using(bridge_schema::proofs::Counts::count_of_view))]
 fn has_hop_count(items: &[Value]) -> bool
     ensures count { result ≡ (nat_le 1 (count_items (items_view items.now)) && nat_le
@@ -135,8 +137,8 @@ fn has_hop_count(items: &[Value]) -> bool
     1 <= items.len() && items.len() <= MAX_HOPS
 }
 
-/// Returns the bridge's index and the filter number that a value such as `left.7` names. A value that isn't a text is `WrongKind`.
-/// `resolve_hop` calls it.
+/// Returns the bridge's index, from 0, and the filter number that a value such as `left.7` names. If the value isn't a text, the flaw is
+/// `WrongKind`. `resolve_hop` calls it.
 fn resolve_filter<A: Allocator + Copy>(
     bridges: &[BridgeRow<A>],
     value: &Value,
@@ -255,8 +257,8 @@ fn read_deadline(index: u32, table: &Table) -> Result<Option<u64>, NetFault>
     read_optional(table, stream_key(index, NetField::Deadline), &DEADLINE)
 }
 
-/// Reads stream `index`, from 1, from its table, or returns its first fault. Hops must be filters of `bridges`. An earlier stream with its
-/// name is `Duplicate`. `read` calls it.
+/// Reads stream `index`, from 1, from its table, or returns its first fault. Hops must be filters of `bridges`. If an earlier stream has
+/// the same name, the fault is `Duplicate`. `read` calls it.
 #[tactic(auto, unfolding(crate::specs::Sections::read_stream))]
 fn read_stream<A: Allocator + Copy>(
     alloc: A,

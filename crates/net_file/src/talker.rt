@@ -14,8 +14,8 @@ use crate::reading::read_required;
 use bridge_schema::{NumberRange, get_value};
 use toml::{Table, Value};
 
-/// Periodic traffic of a stream: one frame in each period, between two phases and between two lengths. Periods begin at multiples of the
-/// period.
+/// Periodic traffic of a stream: at most one frame in each period, between two phases and between two lengths. Periods begin at multiples
+/// of the period.
 #[derive(Clone, Copy)]
 pub struct Talker {
     /// Period in ns.
@@ -40,7 +40,7 @@ fn is_present(value: Option<&Value>) -> bool
     }
 }
 
-/// Returns whether a table has at least one of these keys. By it, streams have a talker, and traffic rows a limit. `is_limited`,
+/// Returns whether a table has at least one of these keys. A stream with such a key has a talker, and a traffic row a limit. `is_limited`,
 /// `has_limited_keys` and others call it.
 pub(crate) fn has_any_key(table: &Table, keys: &[NetField]) -> bool
     ensures { result ≡ sections.has_any_key keys.now (table_view table.now) }
@@ -48,8 +48,10 @@ pub(crate) fn has_any_key(table: &Table, keys: &[NetField]) -> bool
     keys.iter().any(|f| is_present(get_value(table, f.key())))
 }
 
-/// Reads the talker of stream `index`, or returns its first fault. All its keys are required. Phases and lengths must be ordered, and
-/// phases less than the period. `read_optional_talker` calls it.
+/// Reads the talker of stream `index`, from 1, or returns its first fault. All keys of a talker are required. Phases and lengths must be in
+/// order, and phases less than the period.
+///
+/// `read_optional_talker` calls it.
 #[tactic(auto, unfolding(crate::specs::Sections::read_talker))]
 fn read_talker(index: u32, table: &Table) -> Result<Talker, NetFault>
     ensures reads { Gives result (sections.read_talker index (table_view table.now)) }
@@ -93,8 +95,8 @@ fn read_talker(index: u32, table: &Table) -> Result<Talker, NetFault>
     })
 }
 
-/// Reads the talker of stream `index`. Returns `None` if the stream's table has no key of a talker. Allocates no memory. `read_stream`
-/// calls it.
+/// Reads the talker of stream `index`, from 1. Returns `None` if the stream's table has no key of a talker. Allocates no memory.
+/// `read_stream` calls it.
 pub(crate) fn read_optional_talker(index: u32, table: &Table) -> Result<Option<Talker>, NetFault>
     ensures reads { Gives result (sections.read_optional_talker index (table_view table.now)) }
     ensures talker { IfOk result (λ t. ForSome t IsTalker) }

@@ -14,8 +14,10 @@ use bridge_schema::{has_only, read_instances, section_items};
 use std::alloc::{Allocator, Global};
 use toml::{Table, Value};
 
-/// Returns the items of the document's section `traffic`, or the first fault of the top. Another section is `UnknownKey`. Allocates no
-/// memory. `parse_traffic` calls it.
+/// Returns the items of the section `traffic`, or the first fault at the top of the document. If the document has another section, the
+/// fault is `UnknownKey`. Allocates no memory.
+///
+/// `parse_traffic` calls it.
 #[tactic(auto, unfolding(crate::specs::TrafficDocument::row_items))]
 fn row_items<'a>(table: &'a Table) -> Result<&'a [Value], NetFault>
     ensures reads { GivesAs (λ x. items_view x.now) result (doc.row_items (table_view table.now)) }

@@ -1,4 +1,4 @@
-//! Faults of a traffic file, by itself or compared with its plan.
+//! Faults of a traffic file: of its text, or found by comparison with its plan.
 ghost use Rattle.std.specs.Prelude.{◌≡◌, IfOk, string_bytes};
 ghost use Rattle.net_file.specs.TrafficFaults.{traffic_line};
 
@@ -8,11 +8,11 @@ use bridge_limits::NoMemory;
 use std::alloc::Allocator;
 use thiserror::Error;
 
-/// Why a traffic file is refused for a plan: by itself, or compared with the plan. Rows are counted from 1.
+/// Why a traffic file is refused for a plan: a fault of its text, or found by comparison with the plan. Rows are counted from 1.
 #[derive(Clone, Copy, Debug, Error)]
 pub enum TrafficFault {
-    /// Fault of the file. Compared with the plan: `Unresolved` if the filter is missing, `OutOfRange` if a cycle time on the route doesn't
-    /// divide the period.
+    /// Fault of the text, or of the comparison with the plan. The latter is `Unresolved` if the filter is missing, `OutOfRange` if the
+    /// period isn't a multiple of a cycle time.
     #[error("the text isn't traffic")]
     Text(NetFault),
     /// The row with this number, from 1, has periodic traffic, and its filter isn't protected.

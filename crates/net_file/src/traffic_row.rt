@@ -103,8 +103,8 @@ fn read_row(index: u32, table: &Table) -> Result<TrafficRow, NetFault>
     })
 }
 
-/// Reads row `index` from its table: with a limit if it has one of a limit's keys, otherwise with periodic traffic. `next_row` compares it
-/// with the earlier rows.
+/// Reads row `index`, from 1, from its table: with a limit if it has one of a limit's keys, otherwise with periodic traffic. `next_row`
+/// calls it, and compares the row with earlier rows.
 fn read_talker_row(index: u32, table: &Table) -> Result<TalkerRow, NetFault>
     ensures reads { Gives result (spec.read_talker_row index (table_view table.now)) }
     ensures row { IfOk result IsTalkerRow }
@@ -118,14 +118,15 @@ fn read_talker_row(index: u32, table: &Table) -> Result<TalkerRow, NetFault>
     Ok(TalkerRow::Periodic(row))
 }
 
-/// Returns whether one of these rows has the filter `filter`. `next_row` then refuses another row of this filter as `Duplicate`.
+/// Returns whether one of these rows is for filter `filter`. If so, `next_row`, which calls it, refuses another row of this filter as
+/// `Duplicate`.
 fn has_filter(rows: &[TalkerRow], filter: u32) -> bool
     ensures { result ≡ spec.has_filter rows.now filter }
 {
     rows.iter().any(|row| row.filter() == filter)
 }
 
-/// Reads row `index`, from 1, from its table. A row in `earlier` with its filter is the fault `Duplicate`. `read` calls it.
+/// Reads row `index`, from 1, from its table. If a row in `earlier` has the same filter, the fault is `Duplicate`. `read` calls it.
 fn next_row(earlier: &[TalkerRow], index: u32, table: &Table) -> Result<TalkerRow, NetFault>
     ensures reads { Gives result (spec.read_row_in_list earlier.now index (table_view table.now)) }
     ensures own { IfOk result (λ r. spec.has_filter earlier.now (spec.row_filter r) ≡ false) }

@@ -12,7 +12,7 @@ use Rattle.bridge_groups.specs.GateBounds.{IsLeastBound, IsPaddedBound}
 use Rattle.net_latency.specs.declared.bounds.QueueBound.{QueueBound}
 use Rattle.net_latency.specs.declared.tight.TightBound.{TightBound}
 
--- Builds the delay bound `b` of filter `n` in the queue of class `c` at port `q`.
+-- The delay bound `b`, in ns, of filter `n` in the queue of class `c` at port `q`, as a record.
 abbrev pub queue_bound : ℕ → ℕ → ℕ → ℕ → QueueBound
 queue_bound n q c b = record { filter = n; port = q; class = c; bound = b }
 
@@ -31,8 +31,8 @@ pub record AreBounds {A : Type 0} (p : Plan A) (rows : List QueueBound) : Type 0
   pub all : (n q c : ℕ) (f : FilterPlan) → lookup (nat_eq n) p.filters ≡ Some f → f.protected ≡ true → 1 ≤ q → q ≤ 16 → c < 8 → reaches_queue p f q c ≡ true
       → (b : ℕ) × IsMember (queue_bound n q c b) rows
 
--- Holds if row `t` has the queue of row `r`, with a bound for frames with at most as many captured octets as their
--- length.
+-- Holds if row `t` has the queue of row `r`. Its bound holds for frames that have at most as many captured octets as
+-- their length.
 pub record HasLeastBound {A : Type 0} (p : Plan A) (r t : QueueBound) : Type 0 where
   pub filter : t.filter ≡ r.filter
   pub port : t.port ≡ r.port

@@ -92,7 +92,8 @@ pub record KeepsTalkerTraffic {A : Type 0} (n : NetworkParts A) (captures : ℕ 
 
 -- THE PATH OF A FRAME
 
--- Holds if a bridge with plan `p` forwards a frame that arrives on port `r` by port `q`. Forwarding doesn't depend on the arrival time.
+-- Holds if a bridge with plan `p` forwards a frame of `octets` and length `len` from port `r` by port `q`. This doesn't depend on the
+-- arrival time.
 pub record IsForwardedByPort {A : Type 0} (p : Plan A) (octets : List ℕ) (len r q : ℕ) : Type 0 where
   pub ports : ℕ
   pub input : FilterInput
@@ -101,8 +102,12 @@ pub record IsForwardedByPort {A : Type 0} (p : Plan A) (octets : List ℕ) (len 
   pub goes : has_port ports q ≡ true
   pub at : find_port p.ports q ≡ Some out
 
--- Holds if bridge `b` forwards a frame with `octets` and length `len` from port `r` by port `q`. The bridges of the next hops forward it by
+-- Holds if bridge `b` forwards a frame of `octets` and length `len` from port `r` by port `q`. The bridges of the next hops forward it by
 -- the ports in the list, in order.
+--
+-- The last of these ports leads to no hop.
+--
+-- The last of these ports leads to no hop.
 abbrev pub IsForwardedAlong : {A : Type 0} → List (Plan A) → List Link → List StreamHop → List ℕ → ℕ → ℕ → ℕ → ℕ → List ℕ → Type 0
 IsForwardedAlong {A} plans links hops octets len b r q [] =
     (p : Plan A) × (slice_get plans b ≡ Some p) × IsForwardedByPort p octets len r q × (next_hop links hops b q ≡ None)

@@ -91,8 +91,10 @@ abbrev pub shares_queue : {A : Type 0} → Plan A → SharedQueue → Option Fil
 shares_queue p s None = false
 shares_queue p s (Some f) = is_sharer p s.group s.port s.class f
 
--- Holds if `x` has the delays of row `r` in shared queue `s`. They are the queue's bound, and the transmission time of the shortest frame,
--- but at most the bound. The row passes if its filter admits the talker, and the queue drops no copy as full.
+-- Holds if `x` has the delays of row `r` in shared queue `s`. The worst delay is the queue's bound, and the best delay the transmission
+-- time of the shortest frame, if it is less.
+--
+-- The row passes if its filter admits the talker, and the queue drops no copy as full.
 pub record IsLimitedTiming {A : Type 0} (p : Plan A) (index : ℕ) (r : LimitedRow) (s : SharedQueue) (x : QueueTiming) : Type 0 where
   pub row : x.row ≡ index
   pub filter : x.filter ≡ r.filter

@@ -69,7 +69,7 @@ AreFedInTurn n inputs lists leg (x ∷ more) = IsFedByHop n inputs lists leg x.1
 
 -- DELAYS AND PHASES OF A ROUTE
 
--- Holds if timing `x` is that of the queue of `leg` for frames that arrive as `a` describes, and `done` has its phases.
+-- Holds if `x` is the timing of the queue of `leg` for frames that arrive as `a` describes, and `done` has its phases.
 pub record HasHopTiming {A : Type 0} (leg : RouteHop A) (a : HopArrival) (x : Timing) (done : Phases) : Type 0 where
   pub timing : IsTiming leg.plan leg.filter leg.port leg.copy.class a.traffic x
   pub phases : x.phases ≡ Some done

@@ -178,8 +178,9 @@ Pairwise R xs ys = ⊥
 abbrev pub is_queue_of_hop : StreamHop → HopQueue → Bool
 is_queue_of_hop h x = nat_eq x.hop.bridge h.bridge
 
--- Holds if `r` has the delays of a stream after a step; an unknown step has none. After the last queue, the step has them. Otherwise, `T`
--- defines them over all routes from the next hop on.
+-- Holds if `r` has the delays of the routes that continue with an optional step. They are unknown without a step.
+--
+-- The step after the last queue has them; otherwise, `T` gives the delays from the next hop on.
 abbrev pub IsLatencyAfterExit : (StreamHop → HopArrival → Option StreamLatency → Type 0) → Option QueueExit → Option StreamLatency → Type 0
 IsLatencyAfterExit T None r = r ≡ None
 IsLatencyAfterExit T (Some (stop.Last x)) r = r ≡ Some x

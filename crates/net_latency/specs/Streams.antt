@@ -63,8 +63,8 @@ abbrev pub worst_latency : Option StreamLatency → ℕ → ℕ
 worst_latency None bound = bound
 worst_latency (Some x) bound = x.worst
 
--- The word of a stream: `refusable` if its frames may be refused, `arrives` if each frame of its talker arrives within the delays. A stream without a periodic
--- talker has none.
+-- The word of a stream: `refusable` if its frames may be refused, `arrives` if each frame of its talker arrives within the delays. It is
+-- empty if the stream has no periodic talker.
 abbrev pub arrival_word : Bool → Option StreamLatency → List ℕ
 arrival_word false c = codes " refusable"
 arrival_word true None = codes ""
@@ -110,7 +110,7 @@ is_in_time bounds links r = is_passing r.0.talker r.1 && is_met r.0.deadline (wo
 abbrev pub are_in_time : {A : Type 0} → List (Vec QueueBound A) → List LinkRow → List (Stream × Option StreamLatency) → Bool
 are_in_time bounds links rows = list_all (is_in_time bounds links) rows
 
--- Holds if `bounds` has the least delay bounds of each plan.
+-- Holds if `bounds` has the least delay bounds of each plan, in the order of the plans.
 abbrev pub AreQueueBoundsOfPlans : {A : Type 0} → List (Plan A) → List (Vec QueueBound A) → Type 0
 AreQueueBoundsOfPlans [] [] = Unit {0}
 AreQueueBoundsOfPlans (p ∷ ps) (v ∷ vs) = AreLeastBounds p v.items × AreQueueBoundsOfPlans ps vs

@@ -77,8 +77,8 @@ suits p f period =
 abbrev pub row_key : ℕ → NetField → NetKeyLocation
 row_key index key = record { section = section.Traffic; index = index; field = key }
 
--- The fault of row `r` compared with the plan, or `None`. Its optional filter is missing or unprotected, or its period doesn't suit a cycle
--- time.
+-- The fault of row `r` compared with the plan, or `None`. The row has a fault if its optional filter is missing or unprotected, or if its
+-- period isn't a multiple of a cycle time.
 abbrev pub filter_fault : {A : Type 0} → Plan A → ℕ → TrafficRow → Option FilterPlan → Option TrafficFault
 filter_fault p index r None = Some (fault.Text (net.Unresolved (row_key index field.Filter)))
 filter_fault p index r (Some f) =

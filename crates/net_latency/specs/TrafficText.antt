@@ -1,4 +1,4 @@
--- Lines of traffic rows, and the output and faults of `bounds --traffic`.
+-- Lines of traffic rows, and the output and failures of `bounds --traffic`.
 use Rattle.std.specs.Prelude.{◌≡◌, ◌⊎◌, ℕ, ◌-◌, Bool, true, false, ◌++◌, List, Option, None, Some, Ok, Err, flat_map, codes, decimal, string_bytes, take}
 use Rattle.bridge_config.specs.Model.{Plan}
 use Rattle.net_file.specs.declared.fault.NetFault.{NetFault}
@@ -77,7 +77,8 @@ timings_text xs = flat_map figures_line xs
 abbrev pub ReadsRows : List ℕ → List TalkerRow → Type 0
 ReadsRows words rows = rows_of_text (take 1048577 words) ≡ Ok rows
 
--- Holds if the rows suit the plan and `lines` has the lines of its bounds and of the rows. `kept` is true if each frame passes and meets its deadline.
+-- Holds if the rows suit the plan and `lines` has the lines of its bounds and of the rows. `kept` is true if each frame passes and meets
+-- its deadline.
 pub record AreLinesOfTraffic {A : Type 0} (p : Plan A) (rows : List TalkerRow) (lines : List ℕ) (kept : Bool) : Type 0 where
   pub suit : first_row_fault p 1 rows ≡ None
   pub bounds : List ℕ

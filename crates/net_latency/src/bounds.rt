@@ -30,8 +30,8 @@ pub struct QueueBound {
 /// Number of queues of a bridge: 8 classes at 16 ports.
 const QUEUES: u8 = 128;
 
-/// Whether the queue of `class` at `port` is reachable for the filter. `reach` is the filter's reach, computed once by the caller. Returns
-/// false if the port is missing.
+/// Returns whether the queue of `class` at `port` is reachable for the filter. `reach` is the filter's reach, computed once by the caller.
+/// Returns false if the port is missing.
 pub(crate) fn is_reached<A: Allocator + Copy>(
     plan: &Plan<A>,
     filter: &FilterPlan,
@@ -77,8 +77,10 @@ fn bound_in_reach<A: Allocator + Copy>(
     queue_bound(accepted, filter.0, port, class)
 }
 
-/// Appends to `rows` the bound of the filter with index `at` in `order`. Its queue is `place`, 0 to 127 by port and class. Appends nothing
-/// if the filter is unprotected or can't reach it.
+/// Appends to `rows` the bound of the filter with index `at` in `order`, in its queue `place`: 0 to 127, by port and class.
+///
+/// Appends nothing if the filter is unprotected or can't reach the queue.
+/// Appends nothing if the filter is unprotected or can't reach the queue.
 ///
 /// `put_filter_bounds` calls it.
 fn put_bound<A: Allocator + Copy>(

@@ -248,7 +248,7 @@ struct Cycles<'a> {
 }
 
 impl<'a> Cycles<'a> {
-    /// Appends a sentence with the cycle time `cycle` of gate or port (`what`) `number`, and whether the period is a multiple of it.
+    /// Appends a sentence with the cycle time `cycle` of gate or port (`what`) `number`, and whether the period is a multiple of this time.
     /// Updates `common`. `put_gate` and `put_port_cycles` call it.
     fn put_cycle(&mut self, said: &mut TextBuilder<Global>, what: &str, number: u32, cycle: u64) {
         let common = self.common;
@@ -368,7 +368,9 @@ fn explain_row(
     said.finish().ok()
 }
 
-/// Explains why the period of stream `index`, from 1, isn't a multiple of each cycle time on its route. `None` without a talker or memory.
+/// Explains why the period of stream `index`, from 1, isn't a multiple of each cycle time on its route. Returns `None` if the stream is
+/// missing or has no talker, or if memory runs out.
+///
 /// `explain_plans` of `net_check` calls it.
 pub fn explain_period(
     alloc: Global,

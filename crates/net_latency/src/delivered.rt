@@ -98,7 +98,9 @@ pub fn stream_keeps_latency<A: Allocator + Copy>()
         → KeepsStreamLatency t leg more r }
 {}
 
-/// If the delays of a stream have the flag `passes`, each frame of its talker is delivered along each path of bridges that forward it.
+/// Let a stream's delays have the flag `passes`, and the frames of its first hop keep the talker's traffic. Then each frame is delivered
+/// along each path of bridges that forward it.
+///
 /// Other devices may send anything. docs/NETWORK_PROOF.md cites it.
 pub fn stream_is_delivered<A: Allocator + Copy>()
     ensures { (n : NetworkParts A) (hops : List StreamHop) (queues : List HopQueue) (t : Traffic) (r : StreamLatency)
@@ -138,7 +140,7 @@ pub fn talker_frame_has_path<A: Allocator + Copy>()
         → HasPath n hops first a }
 {}
 
-/// If `net check` prints `arrives` and the talker keeps its traffic, each frame at the talker's port is delivered, whatever arrives at
+/// If `net check` prints `arrives` and the talker keeps its traffic, each frame at the talker's port is delivered. Anything may arrive at
 /// other ports. docs/NETWORK_PROOF.md cites it.
 pub fn printed_stream_is_delivered<A: Allocator + Copy>()
     ensures { (n : NetworkParts A) (bounds : List (Vec QueueBound A)) (hops : List StreamHop) (talker : Talker)

@@ -72,8 +72,12 @@ fn is_other_entry_port<A: Allocator + Copy>(
     !is_first || !is_talker_port(links, bridge, plan, handle, on.number)
 }
 
-/// Returns whether frames of other devices than the talker can get the hop's handle at port `on` of its bridge. `is_first` is true for the
-/// first hop. Explanations call it too.
+/// Returns whether frames of devices other than the talker can get the handle of hop `hop` at port `on` of its bridge. Returns false if the
+/// hop's filter isn't protected.
+///
+/// `is_first` is true for the first hop.
+///
+/// `is_entry_exclusive`, and `port_of_others` and `push_entering` of `net_check` call it.
 pub fn can_others_enter<A: Allocator + Copy>(
     links: &[Link],
     is_first: bool,
@@ -108,8 +112,8 @@ fn is_entry_exclusive<A: Allocator + Copy>(
     true
 }
 
-/// Returns whether only the talker's frames can get the handle of a hop from outside. True if the hop's bridge is missing. `is_first` is
-/// true for the first hop. `are_single_entries` calls it.
+/// Returns whether only the talker's frames can get the handle of a hop from outside. Returns true if the hop's bridge is missing.
+/// `is_first` is true for the first hop. `are_single_entries` calls it.
 fn is_single_entry<A: Allocator + Copy>(
     plans: &[Accepted<A>],
     links: &[Link],
@@ -143,8 +147,8 @@ fn are_single_entries<A: Allocator + Copy>(
     true
 }
 
-/// Returns whether each frame that leaves queue `queue` gets the filter of the stream's next hop. True if the queue's port leads to no hop.
-/// `are_received_by_next_hops` calls it.
+/// Returns whether each frame that leaves queue `queue` gets the filter of the stream's next hop. Returns true if the queue's port leads to
+/// no hop. `are_received_by_next_hops` calls it.
 fn is_handed<A: Allocator + Copy>(
     plans: &[Accepted<A>],
     links: &[Link],
@@ -197,8 +201,8 @@ fn handed_course(handed: bool, course: StreamLatency) -> StreamLatency
     }
 }
 
-/// Returns the delays of a periodic talker's frames, and whether each frame passes. `None` if other devices' frames may get a hop's handle,
-/// or the delays are unknown. `latency_through_hops` calls it.
+/// Returns the delays of a periodic talker's frames, and whether each frame passes. Returns `None` if other devices' frames may get a hop's
+/// handle, or the delays are unknown. `latency_through_hops` calls it.
 pub fn checked_stream_latency<A: Allocator + Copy>(
     plans: &[Accepted<A>],
     links: &[Link],
@@ -217,8 +221,8 @@ pub fn checked_stream_latency<A: Allocator + Copy>(
     tested_course(once, handed, course)
 }
 
-/// Returns the delays `course` after both tests: `passes` is cleared if `handed` is false. `None` if they are unknown, or other devices'
-/// frames can get a handle (`once` is false). `checked_stream_latency` calls it.
+/// Returns the delays `course` after both tests: `passes` is cleared if `handed` is false. Returns `None` if they are unknown, or other
+/// devices' frames can get a handle (`once` is false). `checked_stream_latency` calls it.
 fn tested_course(once: bool, handed: bool, course: Option<StreamLatency>) -> Option<StreamLatency>
     ensures { result ≡ spec.tested_course once handed course }
 {

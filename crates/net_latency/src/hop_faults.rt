@@ -223,8 +223,8 @@ fn is_joined(links: &[Link], hops: &[StreamHop], bridge: u16) -> bool {
     false
 }
 
-/// Appends why no frame of another hop in `hops` can reach the refused hop. No link joins their bridges, or its filter accepts no such
-/// frame. `explain_hop_fault` calls it.
+/// Appends why no frame of another hop in `hops` can reach the refused hop. Either no link joins the two bridges, or the filter accepts no
+/// frame of another hop. `explain_hop_fault` calls it.
 fn put_unfed(
     said: &mut TextBuilder<Global>,
     links: &[Link],

@@ -97,8 +97,9 @@ fn is_queue_of_hop(hop: StreamHop, queue: &HopQueue) -> bool
     queue.hop.bridge == hop.bridge
 }
 
-/// Returns the delays over all routes from `queue` through at most `depth` later hops; `None` if unknown. `came` is the arrival at its hop.
-/// `passes`: the hop's filter passes each frame. `add_queue_latency` calls it.
+/// Returns the delays over all routes from `queue` through at most `depth` later hops, or `None` if they are unknown.
+///
+/// `came` is the arrival at the queue's hop; `passes` is true if the hop's filter passes each frame. `add_queue_latency` calls it.
 #[cycle(hop_latency)]
 fn queue_latency<A: Allocator + Copy>(
     case: &StreamContext<'_, A>,
@@ -147,8 +148,8 @@ fn add_queue_latency<A: Allocator + Copy>(
     add_latency(gathered, told)
 }
 
-/// Returns the delays over all routes that begin at `hop` and have at most `depth` hops. Frames arrive at `hop` as `came` describes. `None`
-/// if they are unknown. `queue_latency` and `stream_latency` call it.
+/// Returns the delays over all routes that begin at `hop` and have at most `depth` hops. Frames arrive at `hop` as `came` describes.
+/// Returns `None` if they are unknown. `queue_latency` and `stream_latency` call it.
 #[cycle(hop_latency)]
 fn hop_latency<A: Allocator + Copy>(
     case: &StreamContext<'_, A>,
@@ -186,8 +187,8 @@ fn first_hop_arrival(traffic: &Traffic) -> HopArrival
     }
 }
 
-/// Returns the delays of a periodic talker's frames over all routes. `None` if the hops are no tree, a hop has no queue, or phases are
-/// unknown. `checked_stream_latency` calls it.
+/// Returns the delays of a periodic talker's frames over all routes. Returns `None` if the hops are no tree, a hop has no queue, or phases
+/// are unknown. `checked_stream_latency` calls it.
 pub fn stream_latency<A: Allocator + Copy>(
     plans: &[Accepted<A>],
     links: &[Link],

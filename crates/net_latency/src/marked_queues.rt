@@ -8,7 +8,7 @@ use bridge_groups::{SharedQueue, is_bounded_by_gates, plan_shared_queues};
 use bridge_limits::NoMemory;
 use std::alloc::{AllocError, Allocator};
 
-/// Appends the warning for a queue whose delay only its capacity bounds. A filter of its group has no meter, or the meters pass more than
+/// Appends the warning for a queue whose delay only its capacity bounds. In its group, a filter has no meter, or the meters pass more than
 /// the windows carry. `push_shared_warning` calls it.
 #[tactic(auto, unfolding(crate::specs::SharedWarnings::unmetered_warning))]
 fn push_unmetered_warning<A: Allocator + Copy>(

@@ -1,4 +1,5 @@
-//! Search for the other end of a port's link, and for the hop of a stream there. Delays follow a stream's route by it.
+//! Search for the other end of a port's link, and for the hop of a stream there. The computation of delays follows a stream's route in this
+//! way.
 ghost use Rattle.std.specs.Prelude.{◌≡◌, map, option_map};
 ghost use Rattle.net_model.specs.Networks.{sender};
 ghost use Rattle.net_model.specs.NetworkParts.{link_value};

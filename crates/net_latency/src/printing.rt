@@ -73,8 +73,8 @@ pub fn bounds_text<A: Allocator + Copy>(
     Ok(text)
 }
 
-/// Returns the lines of all tight bounds of an accepted plan, then the lines of its shared queues. `bounds` prints them, with or without
-/// `--traffic`.
+/// Returns the lines of all tight bounds of an accepted plan, then the lines of its shared queues. `bounds_job` and `report_traffic` call
+/// it.
 pub(crate) fn bound_lines<A: Allocator + Copy>(
     alloc: A,
     accepted: &Accepted<A>,
@@ -96,8 +96,8 @@ pub(crate) fn bound_lines<A: Allocator + Copy>(
     Ok(text)
 }
 
-/// Returns the output of `bounds`: a line for each reachable queue of protected filters, and for each shared queue. Its faults are the
-/// faults of `check`. `bound_text` of `app_networks` calls it.
+/// Returns the output of `bounds`: a line for each reachable queue of protected filters, and for each shared queue. Its failures are the
+/// failures of `check`. `bound_text` of `app_networks` calls it.
 pub fn bounds_job<R: Read + Drop, A: Allocator + Copy>(
     alloc: A,
     heap: Global,

@@ -1,4 +1,4 @@
-//! The step that follows a queue of a hop: the end of the route, or the arrival at the next hop. `latency` follows routes by it.
+//! The step that follows a queue of a hop: the end of the route, or the arrival at the next hop. `hop_latency` follows routes step by step.
 ghost use Rattle.std.specs.Prelude.{◌≡◌, ◌+◌, ◌↔◌, IfSome, option_map, slice_get, true, ℕ};
 ghost use Rattle.bridge_bounds.specs.Traffic.{IsTraffic};
 ghost use Rattle.net_latency.specs.StreamLatency as spec;
@@ -41,7 +41,7 @@ pub struct HopArrival {
 /// Next step of frames that have left a queue of a hop: the route ends there, or leads over a link to the next hop.
 #[derive(Clone, Copy)]
 pub(crate) enum QueueExit {
-    /// The queue's port leads to no hop of the stream, so the route ends: the delays of the whole route.
+    /// Delays of the whole route. It ends here, because the queue's port leads to no hop of the stream.
     Last(StreamLatency),
     /// The next hop, and the arrival of the frames there.
     Next(StreamHop, HopArrival),
@@ -77,8 +77,9 @@ pub(crate) fn hop_passes<A: Allocator + Copy>(
     }
 }
 
-/// Returns the delays of a route that ends at a queue with delays `x`. `worst` is the lesser of two limits: summed worst delays, and time
-/// from phase `from` to the last of `done`.
+/// Returns the delays of a route that ends at a queue with delays `x` and phases `done`.
+///
+/// Its worst delay is the lesser of two times: the sum of worst delays, and the time from phase `from` to the last of `done`.
 ///
 /// `exit_over_link` calls it.
 fn latency_at_last_queue(
@@ -100,8 +101,8 @@ fn latency_at_last_queue(
     }
 }
 
-/// Returns the arrival at the next hop over a link of `delay` ns. `x` and `done` are the queue's delays and phases. `None` if phases of
-/// arrival lie in two periods. `exit_over_link` calls it.
+/// Returns the arrival at the next hop over a link of `delay` ns. `x` and `done` are the queue's delays and phases. Returns `None` if
+/// phases of arrival lie in two periods. `exit_over_link` calls it.
 fn next_hop_arrival(
     came: &HopArrival,
     x: &Timing,
@@ -139,8 +140,8 @@ fn next_hop_arrival(
     })
 }
 
-/// Returns the next step of frames that leave a queue in the phases `done`, to hop `onward` or, for `None`, to the route's end. `None` if
-/// phases lie in two periods. `queue_exit` calls it.
+/// Returns the next step of frames that leave a queue in the phases `done`, to hop `onward` or, for `None`, to the route's end. Returns
+/// `None` if phases lie in two periods. `queue_exit` calls it.
 fn exit_over_link(
     from: u64,
     came: &HopArrival,
@@ -163,8 +164,10 @@ fn exit_over_link(
     }
 }
 
-/// Returns the next step of frames that leave `queue`; `came` is their arrival at its hop. `None` if phases are unknown or lie in two
-/// periods, or the bridge is missing. `queue_latency` calls it.
+/// Returns the next step of frames that leave `queue`; `came` is their arrival at the queue's hop. Returns `None` if phases are unknown or
+/// lie in two periods, or the bridge is missing.
+///
+/// `queue_latency` calls it.
 pub(crate) fn queue_exit<A: Allocator + Copy>(
     case: &StreamContext<'_, A>,
     queue: &HopQueue,

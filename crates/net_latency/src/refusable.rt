@@ -90,7 +90,8 @@ fn put_refusable_row(
     }
 }
 
-/// Appends a sentence: the traffic row, its filter, the queue's port, and the first condition that fails there. `put_refusable_row` calls it.
+/// Appends a sentence: the traffic row, its filter, the queue's port, and the first condition that fails there. `put_refusable_row` calls
+/// it.
 fn put_queue(
     said: &mut TextBuilder<Global>,
     plan: &Plan<Global>,
@@ -118,8 +119,8 @@ fn put_queue(
     }
 }
 
-/// Appends the first condition that fails for a talker of a group. It concerns its filter's gate, SDU limit or meter, or the capacity of
-/// the queue. `put_queue` calls it.
+/// Appends the first condition that fails for a talker of a group. It concerns its filter's gate, SDU limit or meter, or the queue's
+/// capacity. `put_queue` calls it.
 fn put_limited_reason(
     said: &mut TextBuilder<Global>,
     plan: &Plan<Global>,
@@ -223,8 +224,8 @@ fn put_lacking_room(said: &mut TextBuilder<Global>, shared: &[SharedQueue], queu
     }
 }
 
-/// Appends the first condition that fails for periodic traffic at a filter and its queue of class `class`. Explanations of `net check` call
-/// it for hops of streams.
+/// Appends the first condition that fails for periodic traffic at a filter and its queue of class `class`. `put_queue`, and `put_condition`
+/// of `net_check` for hops of streams, call it.
 pub fn put_reason(
     said: &mut TextBuilder<Global>,
     plan: &Plan<Global>,

@@ -61,7 +61,7 @@ fn parse_rows<A: Allocator + Copy>(
     }
 }
 
-/// Reads the rows of a traffic file from a reader. `path` names the file in faults. `explain_refusable` and `traffic_job` call it.
+/// Reads the rows of a traffic file from a reader. `path` names the file in failures. `explain_refusable` and `traffic_job` call it.
 pub(crate) fn read_rows<R: Read + Drop, A: Allocator + Copy>(
     alloc: A,
     heap: Global,
@@ -130,8 +130,10 @@ fn check_and_report<A: Allocator + Copy>(
     }
 }
 
-/// Returns the output of `bounds --traffic`: lines of bounds, then a line for each queue of each row. Faults: plan, then traffic file, then
-/// rows compared with the plan. `bound_rows` of `app_networks` calls it.
+/// Returns the output of `bounds --traffic`: lines of bounds, then a line for each queue of each row.
+///
+/// Returns the first failure of the plan, then of the traffic file, then of the rows compared with the plan. `bound_rows` of `app_networks`
+/// calls it.
 pub fn traffic_job<R: Read + Drop, S: Read + Drop, A: Allocator + Copy>(
     alloc: A,
     heap: Global,

@@ -88,14 +88,15 @@ fn hop_bound<A: Allocator + Copy>(bounds: &[Vec<QueueBound, A>], hop: (u16, u32)
     filter_bound(hop.1, bounds_of_bridge(bounds, hop.0))
 }
 
-/// Whether one of these hops is at the bridge. A hop is a pair: index of its bridge and number of its filter. `is_joining_link` calls it.
+/// Returns whether one of these hops is at the bridge. A hop is a pair: index of its bridge and number of its filter. `is_joining_link`
+/// calls it.
 fn has_hop_at_bridge(hops: &[(u16, u32)], bridge: u16) -> bool
     ensures { result ≡ has_hop_at_bridge hops.now bridge }
 {
     hops.iter().any(|hop| hop.0 == bridge)
 }
 
-/// Whether a link joins the bridge to the bridge of one of these hops, in either direction. `greater_delay` calls it.
+/// Returns whether a link joins the bridge to the bridge of one of these hops, in either direction. `greater_delay` calls it.
 fn is_joining_link(hops: &[(u16, u32)], bridge: u16, link: &LinkRow) -> bool
     ensures { result ≡ is_joining_link hops.now bridge link.now }
 {
@@ -149,8 +150,8 @@ fn total_bound<A: Allocator + Copy>(bounds: &[Vec<QueueBound, A>], hops: &[(u16,
     sum
 }
 
-/// Returns the sum over the hops in `later` of `hop_delay`, in ns. `later` has the stream's hops without the first, because a link leads to
-/// each of them.
+/// Returns the sum over the hops in `later` of `hop_delay`, in ns. `later` has the stream's hops without the first: a link leads to each
+/// later hop.
 fn total_delay(links: &[LinkRow], hops: &[(u16, u32)], later: &[(u16, u32)]) -> u128
     requires few { length later.now ≤ 64 }
     ensures sum { result ≡ sum_by (hop_delay links.now hops.now) later.now }
@@ -261,8 +262,8 @@ fn put_margin<B: Allocator>(text: &mut TextBuilder<B>, deadline: Option<u64>, wo
     }
 }
 
-/// Whether each frame of a stream's periodic talker passes all hops. Returns true without a periodic talker, and false if its delays are
-/// unknown. `put_stream` calls it.
+/// Returns whether each frame of a stream's periodic talker passes all hops. Returns true without a periodic talker, and false if its
+/// delays are unknown. `put_stream` calls it.
 fn is_passing(talker: Option<Talker>, course: Option<StreamLatency>) -> bool
     ensures { result ≡ spec.is_passing talker course }
 {
@@ -273,8 +274,8 @@ fn is_passing(talker: Option<Talker>, course: Option<StreamLatency>) -> bool
     }
 }
 
-/// Whether each frame of a stream passes and meets its deadline. If the delays are unknown, the bound is compared with the deadline.
-/// `put_stream` calls it.
+/// Returns whether each frame of a stream passes and meets its deadline. If the delays are unknown, the bound is compared with the
+/// deadline. `put_stream` calls it.
 fn is_in_time(
     passes: bool,
     course: Option<StreamLatency>,
@@ -323,7 +324,7 @@ fn put_stream<A: Allocator + Copy, B: Allocator>(
     is_in_time(passes, course, deadline, bound)
 }
 
-/// Whether both values are true. `stream_lines` folds the results of its streams by it.
+/// Returns whether both values are true. `stream_lines` combines the results of its streams by this function.
 fn both(a: bool, b: bool) -> bool
     ensures { result ≡ (a && b) }
 {

@@ -27,8 +27,8 @@ use net_file::{NetFault, NetField, NetKeyLocation, NetSection, StreamRow, Talker
 use net_model::{Link, StreamHop};
 use std::alloc::Allocator;
 
-/// Returns whether the period is a multiple of each cycle time on the route of filter `filter`'s frames. True if the filter is missing.
-/// `suits_hop` calls it.
+/// Returns whether the period is a multiple of each cycle time on the route of filter `filter`'s frames. Returns true if the filter is
+/// missing. `suits_hop` calls it.
 fn suits_filter<A: Allocator + Copy>(plan: &Plan<A>, filter: u32, period: u64) -> bool
     ensures { result ≡ spec.suits_filter plan.now period (lookup (nat_eq filter) plan.now.filters) }
 {
@@ -45,8 +45,8 @@ fn accepted_plan<A: Allocator + Copy>(plans: &[Accepted<A>], bridge: u16) -> Opt
     plans.get(bridge as usize)
 }
 
-/// Returns whether the period suits a hop's filter (`suits_filter`). `hop` has bridge index and filter number. True if the bridge is
-/// missing. `suits_each` calls it.
+/// Returns whether the period suits the filter of hop `hop`, a bridge index and a filter number (`suits_filter`). Returns true if the
+/// bridge is missing. `suits_each` calls it.
 fn suits_hop<A: Allocator + Copy>(plans: &[Accepted<A>], hop: (u16, u32), period: u64) -> bool
     ensures { result ≡ spec.suits_hop (slice_get plans.now hop.0) hop.1 period }
 {
@@ -77,8 +77,8 @@ fn suits_hops<A: Allocator + Copy>(
     }
 }
 
-/// Returns the fault of the first stream whose period isn't a multiple of each cycle time on its route, or `None`. `check_periods` of
-/// net_check refuses the network by it. `explain_plans` of `net_check` calls it.
+/// Returns the fault of the first stream whose period isn't a multiple of each cycle time on its route, or `None` without one.
+/// `check_periods` and `explain_plans` of `net_check` call it.
 pub fn first_misfit<A: Allocator + Copy>(
     plans: &[Accepted<A>],
     streams: &[StreamRow<A>],

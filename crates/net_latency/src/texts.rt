@@ -31,14 +31,16 @@ pub struct NetworkText<'a> {
 }
 
 impl<'a> NetworkText<'a> {
-    /// Returns the bridge of the network file with index `place`, from 0, or `None` if the file lacks it. Explanations name bridges by it.
-    /// `explain_period`, `explain_hop_fault` and functions of `net_check` call it.
+    /// Returns the bridge of the network file with index `place`, from 0, or `None` if the file lacks it. Explanations use the bridge's
+    /// name. `explain_period`, `explain_hop_fault` and functions of `net_check` call it.
     pub fn bridge(self, place: u16) -> Option<&'a BridgeRow<Global>> {
         self.file.bridges().get(place as usize)
     }
 
-    /// Appends the path of the file, and the position of a key, or of the section's header for `None`. `index` is the number of the
-    /// section's instance, from 1. Explanations begin with it.
+    /// Appends the path of the file, and the position of `key` or, if it is `None`, of the instance's header. `index` is the number of the
+    /// instance in its section, from 1.
+    ///
+    /// Explanations begin with this position.
     pub fn put_place(
         self,
         said: &mut TextBuilder<Global>,
@@ -50,8 +52,8 @@ impl<'a> NetworkText<'a> {
         put_position(said, self.position(section, index, key));
     }
 
-    /// Returns the position of a key, or of the section's header if `key` is `None`. `index` counts the section's instances from 1. Returns
-    /// `None` if the document lacks it. `NetworkText::put_place` calls it.
+    /// Returns the position of `key` or, if it is `None`, of the header of the section's instance `index`, from 1. Returns `None` if the
+    /// document lacks the instance. `NetworkText::put_place` calls it.
     fn position(self, section: NetSection, index: usize, key: Option<&str>) -> Option<Position> {
         let instance = Instance {
             document: self.document,
@@ -62,8 +64,8 @@ impl<'a> NetworkText<'a> {
     }
 }
 
-/// Appends the first 16 numbers with commas between them, then `..` if `numbers` has more. Explanations list filters and ports by it.
-/// `put_protected` and `put_grouped`, and `put_ports` of `net_check` call it.
+/// Appends the first 16 numbers with commas between them, then `..` if `numbers` has more. Explanations show lists of filters and ports in
+/// this form. `put_protected` and `put_grouped`, and `put_ports` of `net_check` call it.
 pub fn put_numbers(said: &mut TextBuilder<Global>, numbers: &[u64]) {
     let mut is_first = true;
     for number in numbers.iter().take(MOST_NUMBERS) {

@@ -68,7 +68,7 @@ fn put_tight_bound<A: Allocator + Copy>(
     Ok(())
 }
 
-/// Returns the tight bounds of the queues in `bounds`, in the order of `bounds`. A tight bound is at most the queue's bound there.
+/// Returns the tight bounds of the queues in `bounds`, in the order of `bounds`. A queue's tight bound is at most its bound in `bounds`.
 /// `tight_queue_bounds` calls it.
 fn tighten_bounds<A: Allocator + Copy>(
     alloc: A,
@@ -100,7 +100,7 @@ pub fn tight_queue_bounds<A: Allocator + Copy>(
     tighten_bounds(alloc, accepted, &bounds)
 }
 
-/// Returns the row of a queue with its least bound for any capture. `lower_bounds` calls it for each queue.
+/// Returns the row of `queue` with the least delay bound that holds for any capture. `lower_bounds` calls it for each queue.
 fn lower_bound<A: Allocator + Copy>(accepted: &Accepted<A>, queue: &QueueBound) -> QueueBound
     requires bound { IsQueueBound accepted.now queue.now.filter queue.now.port queue.now.class queue.now.bound }
     ensures { HasLeastBound accepted.now queue.now result }
@@ -131,7 +131,8 @@ fn lower_bounds<A: Allocator + Copy>(
     Ok(made)
 }
 
-/// Returns the least delay bounds of all reachable queues of protected filters, by rising filter, port and class. They hold for any capture.
+/// Returns the least delay bounds of all reachable queues of protected filters, by rising filter, port and class. They hold for any
+/// capture.
 /// Networks add them up over the hops of a stream.
 ///
 /// `all_queue_bounds` calls it.

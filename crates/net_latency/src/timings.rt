@@ -54,8 +54,8 @@ pub enum TrafficFigures {
     },
 }
 
-/// Returns whether the filter of a row with periodic traffic passes each of its frames. False if the plan lacks the filter. `row_timings`
-/// calls it.
+/// Returns whether the filter of a row with periodic traffic passes each of its frames. Returns false if the plan lacks the filter.
+/// `row_timings` calls it.
 fn row_passes<A: Allocator + Copy>(accepted: &Accepted<A>, row: &TrafficRow) -> bool
     requires row { IsRow row.now }
     ensures { (result ≡ true) ↔ RowPasses accepted.now row.now }
@@ -67,8 +67,8 @@ fn row_passes<A: Allocator + Copy>(accepted: &Accepted<A>, row: &TrafficRow) -> 
     }
 }
 
-/// Appends to `made` the delays of row `index` in the queue of `bound`, if the queue belongs to the row's filter. `passes`: the filter
-/// passes each frame. `row_timings` calls it.
+/// Appends to `made` the delays of row `index` in the queue of `bound`, if the queue belongs to the row's filter. `passes` is true if the
+/// filter passes each frame. `row_timings` calls it.
 fn push_queue_timing<A: Allocator + Copy>(
     accepted: &Accepted<A>,
     bound: &QueueBound,
@@ -217,7 +217,7 @@ pub fn queue_timings<A: Allocator + Copy>(
     Ok(made)
 }
 
-/// Returns whether the worst delay `worst` in ns meets the deadline. True without a deadline. `is_in_time` and `is_kept` call it.
+/// Returns whether the worst delay `worst` in ns meets the deadline. Returns true without a deadline. `is_in_time` and `is_kept` call it.
 pub(crate) fn is_met(deadline: Option<u64>, worst: u128) -> bool
     ensures { result ≡ spec.is_met deadline worst }
 {

@@ -61,7 +61,7 @@ fn suits_gate<A: Allocator + Copy>(plan: &Plan<A>, gate: u32, period: u64) -> bo
     }
 }
 
-/// Returns whether `a` or `b` is true. The loops of `can_wait_at_port` and `has_misfit` combine their results by it.
+/// Returns whether `a` or `b` is true. The loops of `can_wait_at_port` and `has_misfit` call it to combine their results.
 fn either(a: bool, b: bool) -> bool
     ensures { result ≡ (a || b) }
 {
@@ -149,8 +149,10 @@ pub(crate) fn suits<A: Allocator + Copy>(plan: &Plan<A>, filter: &FilterPlan, pe
     !has_misfit(plan, filter, &reach, period)
 }
 
-/// Returns the fault of row `index`, with periodic traffic, or `None`. Its filter is missing or unprotected, or its period doesn't suit a
-/// cycle time on the route. `talker_row_fault` calls it.
+/// Returns the fault of row `index`, with periodic traffic, or `None`.
+///
+/// A row has a fault if its filter is missing or unprotected, or its period isn't a multiple of a cycle time on the route.
+/// `talker_row_fault` calls it.
 pub(crate) fn row_fault<A: Allocator + Copy>(
     plan: &Plan<A>,
     index: u32,
@@ -178,8 +180,8 @@ pub(crate) fn row_fault<A: Allocator + Copy>(
     None
 }
 
-/// Returns the fault of row `index` with a limit of its frames, or `None`. The filter is missing, or belongs to no group.
-/// `talker_row_fault` calls it.
+/// Returns the fault of row `index`, with a limit of its frames, or `None`. The row has a fault if its filter is missing or belongs to no
+/// group. `talker_row_fault` calls it.
 fn group_fault<A: Allocator + Copy>(plan: &Plan<A>, index: u32, filter: u32) -> Option<TrafficFault>
     ensures { result ≡ kinds.group_fault index (lookup (nat_eq filter) plan.now.filters) }
 {
@@ -196,8 +198,7 @@ fn group_fault<A: Allocator + Copy>(plan: &Plan<A>, index: u32, filter: u32) -> 
     }
 }
 
-/// Returns the fault of row `index`, from 1, compared with the plan, or `None`. Explanations find the row by it. `explain_rows` and
-/// `traffic_fault` call it.
+/// Returns the fault of row `index`, from 1, compared with the plan, or `None`. `explain_rows` and `traffic_fault` call it.
 pub(crate) fn talker_row_fault<A: Allocator + Copy>(
     plan: &Plan<A>,
     index: u32,
@@ -211,8 +212,8 @@ pub(crate) fn talker_row_fault<A: Allocator + Copy>(
     }
 }
 
-/// Returns the first fault of the rows compared with the plan, or `None`. A filter is missing, unprotected or in no group, or a period
-/// doesn't suit a cycle time. `check_and_report` calls it.
+/// Returns the first fault of the rows compared with the plan, or `None`. A filter may be missing, unprotected or in no group, or a period
+/// no multiple of a cycle time. `check_and_report` calls it.
 pub fn traffic_fault<A: Allocator + Copy>(
     plan: &Plan<A>,
     rows: &[TalkerRow],

@@ -16,12 +16,14 @@ has_hop stream b m = list_any (λ (x : ℕ × ℕ). nat_eq x.0 b && nat_eq x.1 m
 abbrev pub is_protected : {A : Type 0} → Plan A → ℕ → Bool
 is_protected p m = list_any (λ (f : ℕ × FilterPlan). nat_eq f.0 m && f.1.protected) p.filters
 
--- True if filter `m` of bridge `next` accepts, from the port of sender `s`, only frames of the stream. False if the sending bridge is missing.
+-- True if filter `m` of plan `next`, at port `on`, accepts from sender `s` only frames of the stream. False if the sending bridge is
+-- missing.
 abbrev pub takes_only_from_sender : {A : Type 0} → Option (Plan A) → List (ℕ × ℕ) → Sender → Plan A → PortPlan A → ℕ → Bool
 takes_only_from_sender None stream s next on m = false
 takes_only_from_sender (Some p) stream s next on m = takes_only p (has_hop stream s.from.bridge) s.from.port next on m
 
--- True if filter `m` accepts only frames of the stream from the sender of port `on`. True for an open port.
+-- True if filter `m` of plan `next`, at port `on`, accepts from the optional sender only frames of the stream. True without a sender, as on
+-- an open port.
 abbrev pub takes_only_on_port : {A : Type 0} → Network A → List (ℕ × ℕ) → Option Sender → Plan A → PortPlan A → ℕ → Bool
 takes_only_on_port n stream None next on m = true
 takes_only_on_port n stream (Some s) next on m = takes_only_from_sender (slice_get n.bridges s.from.bridge) stream s next on m

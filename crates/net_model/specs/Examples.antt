@@ -67,33 +67,34 @@ over_the_link = refl
 from_outside : port_inputs links no_commands captures left 0 1 ≡ capture_input 1 (frame_at 7) ∷ []
 from_outside = refl
 
--- No frame left port 1 of bridge 1.
+-- Port 3 of bridge 0 receives no frame, because none left port 1 of bridge 1.
 nothing_back : port_inputs links no_commands captures left 0 3 ≡ []
 nothing_back = refl
 
--- The link in the form of the program.
+-- The link again, as a value of the program's type `Link`, for the tests below.
 abbrev wires : List wiring.Link
 wires = record { one = record { bridge = 0; port = 3 }; other = record { bridge = 1; port = 1 }; delay = 500 } ∷ []
 
--- The hop of bridge `b` and filter `m` in the form of the program.
+-- The hop with bridge index `b` and filter number `m`, as a value of the program's type `StreamHop`.
 abbrev a_hop : ℕ → ℕ → StreamHop
 a_hop b m = record { bridge = b; filter = m }
 
--- The stream, from bridge 0 to bridge 1.
+-- The stream: filter 1 of bridge 0, then filter 1 of bridge 1.
 abbrev hops : List StreamHop
 hops = a_hop 0 1 ∷ a_hop 1 1 ∷ []
 
 -- THE TEST
 
--- The entry of the stream on port `q`.
+-- The entry that identifies the stream on port `q`, by VLAN 10 and destination address; its handle is 1.
 abbrev an_entry : ℕ → StreamEntry
 an_entry q = record { handle = 1; port = q; kind = Null; address = 2 ∷ 0 ∷ 0 ∷ 0 ∷ 0 ∷ 0x0a ∷ []; vid = 10; tag = Tagged }
 
--- An entry with a source address on port `q`.
+-- An entry that gives handle 1 on port `q` to frames of VLAN 10 with one source address.
 abbrev source_entry : ℕ → StreamEntry
 source_entry q = record { handle = 1; port = q; kind = Source; address = 2 ∷ 0 ∷ 0 ∷ 0 ∷ 0 ∷ 1 ∷ []; vid = 10; tag = Tagged }
 
--- A filter with stream gate `gate` of the frames with a handle, or of all frames; `protected` or not.
+-- A filter with stream gate `gate`. It matches the frames with handle `handle`; if this is `None`, it matches all frames. `protected` tells
+-- if the plan protects it.
 abbrev a_filter : Option ℕ → ℕ → Bool → FilterPlan
 a_filter handle gate protected = record {
   handle = handle;
@@ -119,11 +120,12 @@ module _ (A : Type 0) where
     list = None;
   }
 
-  -- A stream gate that is always open or always closed.
+  -- A stream gate without a list: always open if `lets` is true, otherwise always closed.
   abbrev a_gate : Bool → GatePlan A
   a_gate lets = record { shut_on_rx = false; shut_on_octets = false; schedule = Fixed lets None }
 
-  -- The plan of a bridge with these entries. The stream gate of frames without handle is open or closed.
+  -- The plan of a bridge with the entries `streams`. Filter 9 judges the frames that filter 1 doesn't match; its stream gate is open if
+  -- `others` is true.
   abbrev a_plan : List StreamEntry → Bool → Plan A
   a_plan streams others = record {
     ports = a_port 1 ∷ a_port 2 ∷ a_port 3 ∷ [];
@@ -137,29 +139,29 @@ module _ (A : Type 0) where
     filters = (1, a_filter (Some 1) 1 true) ∷ (9, a_filter None 9 false) ∷ [];
   }
 
-  -- True if bridge 1 accepts for the stream only frames of the stream from port 3 of bridge 0.
+  -- True if filter 1 of bridge 1 accepts over the link only frames of the stream, when bridge 0 has plan `p`.
   abbrev is_safe : Plan A → Bool
   is_safe p = takes_only p (nat_eq 1) 3 (a_plan (an_entry 1 ∷ []) true) (a_port 1) 1
 
-  -- If another talker sends to the stream's address on port 2, bridge 1 accepts its frames for the stream.
+  -- If another talker sends to the stream's address on port 2 of bridge 0, filter 1 of bridge 1 accepts its frames.
   forged : is_safe (a_plan (an_entry 1 ∷ []) true) ≡ false
   forged = refl
 
-  -- If the stream gate of all other frames is closed, bridge 1 accepts only frames of the stream.
+  -- If the stream gate of all other frames in bridge 0 is closed, filter 1 of bridge 1 accepts only frames of the stream.
   closed_to_others : is_safe (a_plan (an_entry 1 ∷ []) false) ≡ true
   closed_to_others = refl
 
-  -- If port 2 also has an entry of the stream, the stream's filter polices these frames.
+  -- If port 2 of bridge 0 also has an entry of the stream, filter 1 there judges the other talker's frames. So they belong to the stream.
   named_on_both : is_safe (a_plan (an_entry 1 ∷ an_entry 2 ∷ []) true) ≡ true
   named_on_both = refl
 
-  -- An entry with a source address may miss these frames.
+  -- If the entry on port 2 has a source address, it may miss the other talker's frames.
   named_by_source : is_safe (a_plan (an_entry 1 ∷ source_entry 2 ∷ []) true) ≡ false
   named_by_source = refl
 
   -- THE FAULTS
 
-  -- The network of bridge 0 with this plan and bridge 1 with these entries.
+  -- The parts of a network of two linked bridges: bridge 0 has plan `p`, and bridge 1 has a plan with the entries `entries`.
   abbrev of_two : Plan A → List StreamEntry → NetworkParts A
   of_two p entries = record { plans = p ∷ a_plan entries true ∷ []; links = wires; streams = [] }
 
@@ -185,13 +187,13 @@ module _ (A : Type 0) where
   unfolding first_among_numbers
   not_fed = refl
 
-  -- Filter 9 isn't protected.
+  -- If the second hop is filter 9, which isn't protected, the test reports this hop.
   not_protected : stream_test_fault (of_two (a_plan [] true) []) hop_test.Protected 0 (a_hop 0 1 ∷ a_hop 1 9 ∷ [])
       ≡ Some (fault.NotProtected 1 2)
   unfolding first_among_numbers
   not_protected = refl
 
-  -- The third hop is the first hop again.
+  -- If the third hop is the first hop again, the test reports the third hop.
   hop_twice : stream_test_fault (of_two (a_plan [] true) []) hop_test.Unique 0 (a_hop 0 1 ∷ a_hop 1 1 ∷ a_hop 0 1 ∷ [])
       ≡ Some (fault.HopTwice 1 3)
   unfolding first_among_numbers

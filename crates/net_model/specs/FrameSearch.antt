@@ -1,4 +1,5 @@
--- Search for stray or own frames that a hop can accept over a link. Order: the hop's port, the port's entries, tags, the sender's port, handles.
+-- Search for stray or own frames that a hop can accept over a link. Order: the hop's port, its entries, tags, the sender's port, handles.
+-- `is_of_stream` is true for the sender's hops.
 use Rattle.std.specs.Prelude.{ℕ, ◌+◌, Bool, true, false, not, ◌&&◌, List, [], ◌∷◌, Option, Some, None, option_map}
 use Rattle.std.specs.Prelude.{slice_get, if◌then◌else◌}
 use Rattle.bridge_frame.specs.declared.Tag.{Tag}

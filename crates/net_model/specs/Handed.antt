@@ -9,7 +9,7 @@ use Rattle.net_model.specs.declared.handing.Handing.{Handing}
 use Rattle.net_model.specs.LinkFrames.{matching_filter}
 use Rattle.net_model.specs.Handing as handing
 
--- True if the optional handle `own` is known and isn't `h`.
+-- True if the optional handle `own` is present and isn't `h`.
 abbrev pub is_other_handle : Option ℕ → ℕ → Bool
 is_other_handle None h = false
 is_other_handle (Some own) h = not (nat_eq own h)

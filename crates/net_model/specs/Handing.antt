@@ -1,4 +1,5 @@
--- Test on the plans at a link's two ends: does the next hop get each frame that a hop sends?
+-- Test on the plans at a link's two ends: does the next hop get each frame that a hop sends? The sender has plan `p` and filter `m`, the
+-- receiver `next` and `n`.
 use Rattle.std.specs.Prelude.{ℕ, Bool, true, false, not, ◌&&◌, ◌||◌, nat_eq, List, Option, Some, None, slice_get}
 use Rattle.std.specs.List.{list_all}
 use Rattle.bridge_frame.specs.declared.Tag.{Tag}
@@ -30,8 +31,8 @@ gives_all next on n s = list_all (is_given next on n s) (possible_handles next.s
 abbrev pub takes_all : {A : Type 0} → Plan A → PortPlan A → ℕ → FramePattern → Bool
 takes_all next on n s = goes_on next on s && gives_all next on n s
 
--- True if all frames with this tag that filter `m` passes on to port `q` get filter `n` at the next bridge's port `on`.
--- The sender's entry `e` gives these frames to filter `m` at port `from`.
+-- True if all frames with this tag that filter `m` passes on to port `q` belong to filter `n` at the next bridge's port `on`. Entry `e`
+-- gives them to filter `m` at port `from`.
 abbrev pub hands_tag : {A : Type 0} → Plan A → ℕ → ℕ → Plan A → PortPlan A → ℕ → StreamEntry → PortPlan A → Option Tag → Bool
 hands_tag p m q next on n e from tag =
     not (is_feeding_entry p from m e tag)
@@ -43,7 +44,7 @@ abbrev pub hands_entry : {A : Type 0} → Plan A → ℕ → ℕ → Plan A → 
 hands_entry p m q next on n e None = true
 hands_entry p m q next on n e (Some from) = list_all (hands_tag p m q next on n e from) (possible_tags e.vid)
 
--- True if each frame of filter `m` that bridge `p` sends from port `q` gets filter `n` at port `on` of bridge `next`.
+-- True if each frame of filter `m` that bridge `p` sends from port `q` belongs to filter `n` at port `on` of bridge `next`.
 abbrev pub hands_all : {A : Type 0} → Plan A → ℕ → ℕ → Plan A → PortPlan A → ℕ → Bool
 hands_all p m q next on n = list_all (λ (e : StreamEntry). hands_entry p m q next on n e (find_port p.ports e.port)) p.streams
 
@@ -58,6 +59,6 @@ hands_between None m q next r n = false
 hands_between (Some p) m q None r n = false
 hands_between (Some p) m q (Some next) r n = hands_to_port p m q next (find_port next.ports r) n
 
--- True if each frame of filter `m` that bridge `b` sends from port `q` gets filter `n` of the bridge at the link's end `e`.
+-- True if each frame of filter `m` that bridge `b` sends from port `q` belongs to filter `n` of the bridge at link end `e`.
 abbrev pub hands_over : {A : Type 0} → List (Plan A) → ℕ → ℕ → ℕ → End → ℕ → Bool
 hands_over plans b m q e n = hands_between (slice_get plans b) m q (slice_get plans e.bridge) e.port n

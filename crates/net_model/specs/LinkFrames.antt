@@ -1,4 +1,5 @@
--- Frames that a hop accepts over a link: a test on the plans at the two ends of the link.
+-- Frames that a hop accepts over a link: a test on the plans at the two ends of the link. `p` is the sender's plan, `next` the receiver's;
+-- `is_of_stream` is true for the sender's hops.
 use Rattle.std.specs.Prelude.{ℕ, Bool, true, false, not, ◌&&◌, ◌||◌, nat_eq, List, [], ◌∷◌, ◌++◌, map}
 use Rattle.std.specs.Prelude.{Option, Some, None, if◌then◌else◌}
 use Rattle.std.specs.List.{list_all}
@@ -42,8 +43,8 @@ can_match e port vid s =
     nat_eq e.port port && nat_eq e.vid vid && accepts_tag e.tag s.tag
     && (not (is_same_kind e.kind s.kind) || bytes_eq e.address s.address)
 
--- The handles that frames of pattern `s` may get on `port` in VLAN `vid`, in entry order; `None` stands for no handle. The list stops at
--- the first entry that surely matches.
+-- The handles that frames of pattern `s` may get on `port` in VLAN `vid`, in entry order; `None` means no handle. The list stops at the
+-- first entry that surely matches.
 abbrev pub possible_handles : List StreamEntry → ℕ → ℕ → FramePattern → List (Option ℕ)
 possible_handles [] port vid s = None ∷ []
 possible_handles (e ∷ es) port vid s =

@@ -11,7 +11,7 @@ use Rattle.net_model.specs.Pruning.{has_port, is_same_port}
 abbrev pub is_reached : BridgePort → List BridgePort → BridgePort → Bool
 is_reached start reached x = is_same_port start x || has_port reached x
 
--- True if step `s` doesn't begin at a reached port.
+-- True if step `s` begins neither at `start` nor at a reached port.
 abbrev pub is_unexplored : BridgePort → List BridgePort → Step → Bool
 is_unexplored start reached s = not (is_reached start reached s.from)
 

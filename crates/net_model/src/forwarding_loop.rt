@@ -57,7 +57,7 @@ fn add_group_loop<A: Allocator + Copy>(
     }
 }
 
-/// Returns a loop for each of these groups whose frames may loop, in the order of `groups`. `find_forwarding_loops` calls it.
+/// Returns a loop for each group in `groups` whose frames may loop, in the order of `groups`. `find_forwarding_loops` calls it.
 fn group_loops<A: Allocator + Copy>(
     alloc: A,
     plans: &[Accepted<A>],

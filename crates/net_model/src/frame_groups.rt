@@ -106,7 +106,7 @@ fn add_entry_groups<A: Allocator + Copy>(
     )
 }
 
-/// Adds to `groups`, for each of these VLANs, the group of all destinations without a static entry. `add_plan_groups` calls it.
+/// Adds to `groups`, for each VLAN in `vlans`, the group of all destinations without a static entry. `add_plan_groups` calls it.
 fn add_vlan_groups<A: Allocator + Copy>(
     groups: &mut Vec<FrameGroup, A>,
     vlans: &[Vlan],

@@ -32,8 +32,10 @@ struct Taker<'a, A: Allocator + Copy> {
 }
 
 impl<'a, A: Allocator + Copy> Taker<'a, A> {
-    /// Returns whether the receiving bridge forwards frames with this tag and the address of entry `named` by some port. True for a source
-    /// address: the destination is unknown then. `takes_all` calls it.
+    /// Returns whether the receiving bridge forwards frames with this tag and the address of entry `named` to at least one port. True for a
+    /// source address: the destination is unknown then.
+    ///
+    /// `takes_all` calls it.
     fn is_forwarded(&self, named: &StreamEntry, tag: Option<Tag>) -> bool
         requires from { 1 ≤ self.now.on.now.number }
         requires to { self.now.on.now.number ≤ 16 }
@@ -51,8 +53,8 @@ impl<'a, A: Allocator + Copy> Taker<'a, A> {
         }
     }
 
-    /// Returns whether frames with this tag and this stream handle belong to the receiving filter. `None` stands for an untagged frame, and
-    /// for a frame without handle. `gives_all` calls it.
+    /// Returns whether frames with this tag and this stream handle belong to the receiving filter. `tag` is `None` for an untagged frame,
+    /// and `handle` is `None` for a frame without handle. `gives_all` calls it.
     fn is_given(&self, tag: Option<Tag>, handle: Option<u32>) -> bool
         ensures { result ≡ is_filter_number self.now.filter (feeding.matching_filter self.now.plan.now handle
             (classified.frame_priority self.now.on.now tag)) }
@@ -63,8 +65,8 @@ impl<'a, A: Allocator + Copy> Taker<'a, A> {
         }
     }
 
-    /// Returns whether each frame with this tag and the address of entry `named` gets the receiving filter. This includes each handle that
-    /// the frame may get there, or none. `takes_all` calls it.
+    /// Returns whether each frame with this tag and the address of entry `named` belongs to the receiving filter, whichever stream handle
+    /// it gets there. `takes_all` calls it.
     fn gives_all(&self, named: &StreamEntry, tag: Option<Tag>) -> bool
         ensures { result ≡ spec.gives_all self.now.plan.now self.now.on.now self.now.filter
             (frame_pattern named.now tag) }
@@ -96,8 +98,8 @@ impl<'a, A: Allocator + Copy> Taker<'a, A> {
     }
 }
 
-/// Returns whether the filter's handle `own` is known and isn't `handle`. Then entries of `handle` give the filter no frames. `hands_entry`
-/// calls it.
+/// Returns whether the filter's handle `own` is present and isn't `handle`. Then entries of `handle` give the filter no frames.
+/// `hands_entry` calls it.
 fn is_other_handle(own: Option<u32>, handle: u32) -> bool
     ensures { result ≡ is_other_handle own handle }
 {
@@ -246,7 +248,7 @@ fn receives_every_frame<A: Allocator + Copy>(
     }
 }
 
-/// Returns whether each frame of `hop` that leaves by `port` gets filter `taker` at `end`, the link's other end. False if a bridge or port
+/// Returns whether filter `taker` at `end`, the link's other end, gets each frame of `hop` that leaves by `port`. False if a bridge or port
 /// is missing. Delays of talkers need this.
 ///
 /// `is_handed` of `net_latency` calls it.

@@ -31,8 +31,10 @@ ghost use Rattle.net_model.specs.declared.sending_port.FrameQuery.TheVariants.{S
 
 use std::alloc::Allocator;
 
-/// In a complete run of an accepted network, each hop of a closed stream has its record of an idle network. There, only this stream sends
-/// frames. docs/NETWORK_PROOF.md cites it.
+/// In a complete run of an accepted network, each hop of a closed stream has the record that it has on an idle network. On an idle network,
+/// only this stream sends frames.
+///
+/// docs/NETWORK_PROOF.md cites it.
 pub fn stream_alone<A: Allocator + Copy>()
     ensures { (n : Network A) (stream : List (ℕ × ℕ)) (commands : ℕ → List Input) (captures : ℕ → ℕ
         → List CapturedFrame)
@@ -76,8 +78,10 @@ pub fn other_traffic_changes_nothing<A: Allocator + Copy>()
         → AreSameViews u v }
 {}
 
-/// If `takes_only` holds, each copy from port `q` of plan `p` that gets protected filter `n` in plan `next` comes from a filter of the
-/// stream. The sending bridge may receive anything. docs/NETWORK_PROOF.md cites it.
+/// If `takes_only` holds, only frames of the stream's filters get from port `q` of plan `p` to protected filter `n` of plan `next`. The
+/// sending bridge may receive anything.
+///
+/// docs/NETWORK_PROOF.md cites it.
 pub fn only_stream_is_taken<A: Allocator + Copy>()
     ensures { (p next : Plan A) (is_of_stream : ℕ → Bool) (q r n t : ℕ) (f : FilterPlan) (out on : PortPlan A)
         (es : List Event) (o : Offer)
@@ -119,7 +123,7 @@ pub fn stray_exists_if_test_fails<A: Allocator + Copy>()
         → (first_taken Strays p is_of_stream q next on n ≡ None) ↔ (takes_only p is_of_stream q next on n ≡ true) }
 {}
 
-/// If `hands_all` holds for the plans at a link's ends, filter `n` at the receiving end misses no copy. It gets each copy of filter `m`
+/// If `hands_all` holds for the plans at a link's ends, filter `n` at the receiving end misses no copy. It judges each copy of filter `m`
 /// that arrives over the link and is forwarded there.
 ///
 /// So no frame of a stream is lost between hops.

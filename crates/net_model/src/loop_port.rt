@@ -27,8 +27,8 @@ fn first_loop_port<A: Allocator + Copy>(
     Ok(None)
 }
 
-/// Returns a port from which steps lead back to itself. Returns `None` if and only if no walk returns to its start. `find_forwarding_loops`
-/// needs it for each group.
+/// Returns a port from which steps lead back to itself. Returns `None` if and only if no walk returns to its start. `group_loop_port` calls
+/// it for each group.
 pub fn find_loop_port<A: Allocator + Copy>(
     alloc: A,
     steps: &[Step],

@@ -17,8 +17,8 @@ fn is_reached(start: BridgePort, reached: &[BridgePort], x: BridgePort) -> bool
     is_same_port(start, x) || has_port(reached, x)
 }
 
-/// Returns the steps in `steps` that don't begin at a reached port or at `start`. Later rounds of the search explore them. `is_on_loop`
-/// calls it.
+/// Returns the steps in `steps` that begin neither at `start` nor at a reached port. Later iterations of the search explore them.
+/// `is_on_loop` calls it.
 #[tactic(auto, using(std::proofs::lemmas::List::Elements::filter_more))]
 fn unexplored_steps<A: Allocator + Copy>(
     alloc: A,
@@ -56,7 +56,7 @@ fn add_reached_ports<A: Allocator + Copy>(
     Ok(places)
 }
 
-/// Returns whether steps lead from `start` back to `start`. In each round, the search adds the ports that one more step reaches.
+/// Returns whether steps lead from `start` back to `start`. In each iteration, the search adds the ports that one more step reaches.
 /// `first_loop_port` calls it for each step's start.
 pub(crate) fn is_on_loop<A: Allocator + Copy>(
     alloc: A,

@@ -43,7 +43,7 @@ pub(crate) enum HopTest {
     Fed,
 }
 
-/// The parts of a network under test. `check_network` builds it to run the tests.
+/// The parts of a network under test. `first_fault` of `network.rt` builds it to run the tests.
 #[derive(Clone, Copy)]
 pub(crate) struct TestedNetwork<'a, A: Allocator + Copy> {
     pub plans: &'a [Accepted<A>],
@@ -51,8 +51,8 @@ pub(crate) struct TestedNetwork<'a, A: Allocator + Copy> {
     pub streams: &'a [Vec<StreamHop, A>],
 }
 
-/// Returns the plan of the bridge with index `place`, from 0. Returns `None` if the network has no such bridge. `is_received_by_next_hop`,
-/// `end_port` and functions of `net_check` and `net_latency` call it.
+/// Returns the plan of the bridge with index `place`, from 0. Returns `None` if the network has no such bridge. Tests and searches here
+/// call it, and functions of `net_check` and `net_latency`.
 pub fn find_plan<'a, A: Allocator + Copy>(
     plans: &'a [Accepted<A>],
     place: u16,
@@ -165,7 +165,9 @@ fn is_repeated_hop<A: Allocator + Copy>(
 }
 
 /// Returns the stream handle of the protected filter with number `number`. Returns `None` if the filter is missing, unprotected or names no
-/// handle. `receives_every_frame`, `hop_test_fault_in_plan` and functions of `net_latency` call it.
+/// handle.
+///
+/// Tests and searches here call it, and a function of `net_latency`.
 pub fn protected_handle(filters: &[(u32, FilterPlan)], number: u32) -> Option<u32>
     ensures { result ≡ spec.protected_handle filters.now number }
 {

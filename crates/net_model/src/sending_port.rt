@@ -51,7 +51,7 @@ pub(crate) struct SendingPort<'a, A: Allocator + Copy> {
     pub question: FrameQuery,
 }
 
-/// Returns whether a stream entry of tag kind `kind` accepts a frame with tag `tag`; `None` stands for an untagged frame. `can_match` and
+/// Returns whether a stream entry of tag kind `kind` accepts a frame with tag `tag`, which is `None` for an untagged frame. `can_match` and
 /// `maps_tag_to_filter` call it.
 pub(crate) fn accepts_tag(kind: TagKind, tag: Option<Tag>) -> bool
     ensures { result ≡ ident.accepts_tag kind tag }
@@ -63,8 +63,8 @@ pub(crate) fn accepts_tag(kind: TagKind, tag: Option<Tag>) -> bool
     }
 }
 
-/// Returns the VLAN in which `port` classifies a frame with tag `tag`; `None` stands for an untagged frame. `is_forwarded`, `gives_all` and
-/// others call it.
+/// Returns the VLAN in which `port` classifies a frame with tag `tag`, which is `None` for an untagged frame. `is_forwarded`, `gives_all`
+/// and others call it.
 pub(crate) fn classified_vid<A: Allocator + Copy>(port: &PortPlan<A>, tag: Option<Tag>) -> u16
     ensures { result ≡ classified.frame_vid port.now tag }
 {
@@ -74,7 +74,7 @@ pub(crate) fn classified_vid<A: Allocator + Copy>(port: &PortPlan<A>, tag: Optio
     }
 }
 
-/// Returns the priority that a frame with tag `tag` has on `port`; `None` stands for an untagged frame. `is_given`, `maps_tag_to_filter`
+/// Returns the priority that a frame with tag `tag` has on `port`; `tag` is `None` for an untagged frame. `is_given`, `maps_tag_to_filter`
 /// and `first_frame_on_ingress` call it.
 pub(crate) fn frame_priority<A: Allocator + Copy>(port: &PortPlan<A>, tag: Option<Tag>) -> u8
     ensures { result ≡ classified.frame_priority port.now tag }
@@ -98,7 +98,7 @@ pub(crate) fn is_same_kind(a: Kind, b: Kind) -> bool
 }
 
 /// Returns whether `entry` can match frames with this tag and the address of `named`, on port `port` in VLAN `vid`. If `entry` compares the
-/// other kind of address, it can match.
+/// other kind of address, its address doesn't matter.
 ///
 /// `gives_all` and `first_by_handle` call it.
 pub(crate) fn can_match(
@@ -283,8 +283,8 @@ impl<'a, A: Allocator + Copy> SendingPort<'a, A> {
         }
     }
 
-    /// Returns whether the search looks for frames of filter `flow`. `None` stands for unfiltered frames, which are stray. `find_frames`
-    /// calls it.
+    /// Returns whether the search looks for frames of filter `flow`, which is `None` for unfiltered frames. Unfiltered frames are stray.
+    /// `find_frames` calls it.
     fn is_asked(&self, flow: Option<(u32, FilterPlan)>) -> bool
         requires { IsSendingPort self.now }
         ensures { result ≡ is_asked self.now.question self.now.plan.now (hops self.now) self.now.end.port flow }
@@ -339,8 +339,10 @@ impl<'a, A: Allocator + Copy> SendingPort<'a, A> {
         self.find_frames(port, priority, None)
     }
 
-    /// Returns the first example among frames with this tag and the address of `named` that arrive on `on`, or `None`. They must be able to
-    /// leave by the sending port. `first_frame_on_ingress_number` calls it.
+    /// Returns the first example among frames with this tag and the address of `named` that arrive on `on`, or `None`. The frames must be
+    /// able to leave by the sending port.
+    ///
+    /// `first_frame_on_ingress_number` calls it.
     fn first_frame_on_ingress(
         &self,
         named: &StreamEntry,

@@ -11,7 +11,8 @@ use bridge_frame::Tag;
 use bridge_ident::StreamEntry;
 use std::alloc::Allocator;
 
-/// Filter of a hop, a linked port of its bridge, and the port at the link's other end that sends to it. The search for frames is a method.
+/// Filter of a hop, a linked port of its bridge, and the port at the other end of the link. Methods search for frames that the filter
+/// accepts.
 #[derive(Drop)]
 pub(crate) struct TakingFilter<'a, A: Allocator + Copy> {
     /// Port at the other end of the link.
@@ -97,7 +98,7 @@ impl<'a, A: Allocator + Copy> TakingFilter<'a, A> {
     }
 
     /// Returns the first example among frames with the address of `entry`, or `None`. Tries no tag, then VLAN identifier 0, then the
-    /// entry's. The caller has compared port and handle.
+    /// entry's. `first_frame_of_entry` calls it after it has compared port and handle.
     fn first_frame_of_matching_entry(&self, entry: &StreamEntry) -> Option<FoundFrames>
         requires { IsTakingFilter self.now }
         ensures { result ≡ find_first (first_frame_with_tag self.now entry.now) (possible_tags entry.now.vid) }

@@ -151,7 +151,8 @@ abbrev pub IsPortExhausted : {A : Type 0} → List Link → List (HopRun A) → 
 IsPortExhausted {A} links hops all i q = (h : HopRun A) (s : Sender) → slice_get hops i ≡ Some h → sender (map link_value links) h.bridge q ≡ Some s
     → (j : ℕ) → j < length hops → IsPairExhausted hops all s i q j
 
--- Holds if tracing to any port of any hop finds no more source. Then a frame from a link has a known source if the copy sent one delay before has one.
+-- Holds if tracing to any port of any hop finds no more source. Then a frame from a link has a known source if the copy sent one delay
+-- before has one.
 abbrev pub AreExhausted : {A : Type 0} → List Link → List (HopRun A) → List (Vec (Option SourceFrame) A) → Type 0
 AreExhausted links hops all = (i q : ℕ) → i < length hops → 1 ≤ q → q < 17 → IsPortExhausted links hops all i q
 

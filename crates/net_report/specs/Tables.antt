@@ -12,7 +12,8 @@ use Rattle.net_report.specs.Hops.{AreOnwardPorts}
 use Rattle.net_report.specs.StreamTable.{hop_line, stream_line}
 use Rattle.net_report.specs.HopCounts.{counts_by_ports, delays_at_hop, departure_delays}
 
--- Holds if `row` is the row of hop `h` in the table of streams, and `lines` are its rows in the table of frames. `roots` has the source of each frame.
+-- Holds if `row` is the row of hop `h` in the table of streams, and `lines` are its rows in the table of frames. `roots` has the source of
+-- each frame.
 pub record AreRowsOfHop {A : Type 0} (links : List Link) (hops : List (HopRun A)) (stream name : List ℕ) (h : HopRun A) (roots : List (Option SourceFrame)) (row lines : List ℕ) : Type 0 where
   pub ways : List Bool
   pub are_ways : AreOnwardPorts links hops h.bridge ways

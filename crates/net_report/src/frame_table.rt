@@ -228,7 +228,7 @@ fn put_departures<A: Allocator>(
 }
 
 /// Writes the `frames.csv` rows of a hop's record `view`: refused frames, dropped copies, then copies that left. `ways` has whether each
-/// port leads to a hop. `rows_of_hop` calls it.
+/// port leads to a hop. `rows_of_hop` and `frame_lines` call it.
 pub(crate) fn put_hop_lines<A: Allocator + Copy>(
     text: &mut TextBuilder<A>,
     stream: &str,

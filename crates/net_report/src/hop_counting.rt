@@ -16,7 +16,7 @@ use bridge_semantics::{
 use net_model::Link;
 use std::alloc::Allocator;
 
-/// Returns whether a verdict is `Pass`: the filter passed the frame. Counts, tables and pictures find refused frames by it.
+/// Returns whether a verdict is `Pass`: the filter passed the frame. Counts, tables and pictures find refused frames in this way.
 /// `count_verdict`, `put_verdict` and `put_refused` call it.
 pub(crate) fn is_pass(verdict: Verdict) -> bool
     ensures { result ≡ spec.is_pass verdict }

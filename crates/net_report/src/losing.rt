@@ -19,8 +19,8 @@ pub struct HopLosses<A: Allocator> {
     pub counts: HopCounts,
 }
 
-/// Returns the numbers of refused frames and dropped copies of a hop, in the form in which `bridge_report` writes losses. `put_hop_losses` calls
-/// it.
+/// Returns the numbers of refused frames and dropped copies of a hop, in the form in which `bridge_report` writes losses. `put_hop_losses`
+/// calls it.
 fn hop_losses(counts: &HopCounts) -> Losses
     ensures { result ≡ spec.losses_at counts.now }
 {

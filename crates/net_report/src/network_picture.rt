@@ -186,7 +186,7 @@ fn picture_width(bridges: usize) -> u64 {
     LEFT_MARGIN + COLUMN_WIDTH * columns + 170
 }
 
-/// Returns the position of the row of the stream with index `place`, in pixels from the top of the picture. Rows are below the bridges'
+/// Returns the distance of the row of stream `place` (index from 0) from the top of the picture, in pixels. Rows are below the bridges'
 /// boxes. `draw_network` and `put_network` call it.
 fn stream_y(top: u64, place: usize) -> u64 {
     top.saturating_add(BOX_HEIGHT + 30)

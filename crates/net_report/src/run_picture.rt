@@ -76,14 +76,14 @@ fn widen_span_by_record<A: Allocator>(view: &View<A>, span: Span) -> Span {
     Span { from, to }
 }
 
-/// Returns the position of time `moment` on the time axis, in pixels from the left edge of the picture. `put_link`, `time_mark` and
+/// Returns the point of time `moment` (ns) on the time axis, in pixels from the left edge of the picture. `put_link`, `time_mark` and
 /// `bar_x_and_width` call it.
 pub(crate) fn time_x(picture: &RunPicture, moment: u64) -> u64 {
     LEFT_MARGIN + picture.span.axis_distance(moment, TIME_WIDTH)
 }
 
 /// Draws an element with a title, which browsers show when the pointer rests on it. The title is `words` with `numbers` and `word` at its
-/// marks. Rows and windows are drawn by it.
+/// marks.
 ///
 /// `put_window`, `put_hatch` and others call it.
 pub(crate) fn put_titled(
@@ -101,14 +101,14 @@ pub(crate) fn put_titled(
     shapes.end_shape();
 }
 
-/// Returns the position of the row with index `row`, in pixels from the top of the picture. `put_link`, `RunPicture::put_open_windows` and
-/// others call it.
+/// Returns the distance of the row with index `row`, from 0, from the top of the picture, in pixels. `put_link`,
+/// `RunPicture::put_open_windows` and others call it.
 pub(crate) fn row_y(row: u64) -> u64 {
     row.saturating_mul(ROW_HEIGHT).saturating_add(TOP_MARGIN)
 }
 
-/// Returns a bar from time `from` to time `to`, `y` pixels from the top and `height` pixels high. Rows and windows are drawn by it.
-/// `put_window`, `put_hatch` and `put_departure` call it.
+/// Returns a bar from time `from` to time `to`, `y` pixels from the top and `height` pixels high. `put_window`, `put_hatch` and
+/// `put_departure` call it.
 pub(crate) fn bar_x_and_width(
     picture: &RunPicture,
     from: u64,
@@ -140,12 +140,15 @@ impl RunPicture {
         }
     }
 
-    /// Widens the time axis to the times of a stream's hops. `app_networks` calls it for all streams before it draws the first one.
+    /// Widens the time axis to the times of a stream's hops. `include_streams` of `app_networks` calls it for all streams before the first
+    /// one is drawn.
     pub fn include_stream<A: Allocator>(&mut self, hops: &[HopRun<'_, A>]) {
         self.span = widen_span(hops, self.span);
     }
 
-    /// Draws the windows of a class at a port in the row of hop `place` of the next stream. A port without list is always open.
+    /// Draws the windows of class `class` at port `port` in the row of hop `place`, from 0, of the next stream. A port without list is
+    /// always open.
+    ///
     /// `put_stream` draws over the windows. `app_networks` calls it.
     pub fn put_open_windows<A: Allocator + Copy>(
         &mut self,

@@ -302,8 +302,10 @@ fn trace_pair<A: Allocator + Copy>(
     Ok(true)
 }
 
-/// Returns whether `one` or `other` is true. Loops over hops and ports combine by it whether they found more sources. Their proofs need the
-/// contract, which `||` lacks. `trace_sender`, `trace_hop` and `trace_all` call it.
+/// Returns whether `one` or `other` is true. Loops over hops and ports call it to combine whether they found more sources. Their proofs
+/// need the contract, which `
+///
+/// ` lacks. `trace_sender`, `trace_hop` and `trace_all` call it.
 fn either(one: bool, other: bool) -> bool
     ensures one { result ≡ false → one ≡ false }
     ensures other { result ≡ false → other ≡ false }

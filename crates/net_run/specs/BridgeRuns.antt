@@ -22,7 +22,7 @@ use Rattle.net_run.specs.declared.bridge_run.BridgeInput.{BridgeInput}
 use Rattle.net_model.specs.declared.sender.Sender.{Sender}
 use Rattle.net_run.specs.DelayedCapture.{delayed}
 
--- Holds if a text is the capture of these frames, and each frame fits its record.
+-- Holds if the octets `tap` are the capture of these frames, and each frame fits its record.
 pub record IsCaptureOfFrames (frames : List CapturedFrame) (tap : List ℕ) : Type 0 where
   pub is : tap ≡ written_text frames
   pub fits : All FitsRecord frames
@@ -38,7 +38,7 @@ pub record RunsBridge {A : Type 0} (p : Plan A) (ports : List ℕ) (commands : L
   pub ends : EndsRun p (input_events inputs) left o
   pub written : (i q : ℕ) (tap : List ℕ) → slice_get ports i ≡ Some q → slice_get taps i ≡ Some tap → IsCaptureOfFrames (left q) tap
 
--- The text of port `q`: it has the index that `q` has in the list of ports. Empty if the list lacks the port.
+-- The capture of port `q` in `texts`: it has the index that `q` has in the list of ports. Empty if one of the lists lacks the port.
 abbrev pub text_of_port : List ℕ → List (List ℕ) → ℕ → List ℕ
 text_of_port [] texts q = []
 text_of_port (p ∷ ports) [] q = []
@@ -87,7 +87,7 @@ pub record BridgeRunState (A : Type 0) : Type 0 where
 abbrev pub HasCompleteRun : {A : Type 0} → BridgeRunState A → Type 0
 HasCompleteRun {A} x = (taps : List (List ℕ)) × (o : Outcome A) × RunsBridge x.plan x.ports x.commands x.texts taps o
 
--- Holds if a bridge has one text for each port, and its result, if any, is the result of a run over its texts.
+-- Holds if a bridge has one input capture for each port, and its result, if any, is the result of a run over these captures.
 pub record IsBridgeRun {A : Type 0} (s : BridgeRunState A) : Type 0 where
   pub numbers : ArePortNumbers s.plan s.ports
   pub commands : AreCommands s.plan s.commands
@@ -96,7 +96,7 @@ pub record IsBridgeRun {A : Type 0} (s : BridgeRunState A) : Type 0 where
   pub tapped : (o : Outcome A) → s.outcome ≡ Some o → length s.taps ≡ length s.ports
   pub runs : (o : Outcome A) → s.outcome ≡ Some o → RunsBridge s.plan s.ports s.commands s.texts s.taps o
 
--- The texts of the open ports, and an empty text for each linked port.
+-- The input captures of the open ports, and no octets for each linked port.
 abbrev pub open_texts : List (Option networks.Sender) → List (List ℕ) → List (List ℕ)
 open_texts [] texts = []
 open_texts (s ∷ senders) [] = []

@@ -50,8 +50,10 @@ abbrev pub IsWithinLength : Event → Type 0
 IsWithinLength (Arrived a) = length a.octets ≤ a.len
 IsWithinLength (Cleared clear n) = Unit {0}
 
--- Holds if `settled` is the result of a complete run, open ports read their captures in `came` to the end, and all
--- outputs are written. No received frame is longer in its capture than on the link. Field `frames` has the captured frames by bridge and port.
+-- Holds if `settled` is the result of a complete run of the network. Open ports read their captures in `came` to the end, and all outputs
+-- are written.
+--
+-- No received frame has more captured octets than its length. Field `frames` has the captured frames by bridge and port.
 pub record RunsNetwork {A : Type 0} (n : NetworkParts A) (came : List (BridgeInput A)) (settled : List (BridgeResult A)) : Type 0 where
   pub many : length settled ≡ length n.plans
   pub frames : ℕ → ℕ → List CapturedFrame

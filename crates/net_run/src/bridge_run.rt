@@ -164,7 +164,7 @@ fn find_port_capture<'a, A: Allocator + Copy>(
 pub struct BridgeInput<A: Allocator> {
     /// Commands by rising time.
     pub commands: Vec<Command, A>,
-    /// Captures for each port by rising number. The run doesn't read the captures of linked ports.
+    /// One capture for each port, by rising port number. The run doesn't read the captures of linked ports.
     pub captures: Vec<Vec<u8, A>, A>,
 }
 
@@ -240,8 +240,8 @@ fn clear_linked_ports<A: Allocator + Copy>(
     Ok(texts)
 }
 
-/// A bridge in a network run: its inputs by port, its commands, the captures of its sent frames, and its result. The result is `None` after
-/// an input has changed.
+/// A bridge in a network run: its inputs by port, its commands, the captures of its sent frames, and its result. The result is `None`
+/// before the first run, and after an input has changed.
 #[derive(Drop)]
 pub(crate) struct BridgeRun<'a, A: Allocator + Copy> {
     accepted: &'a Accepted<A>,
@@ -361,7 +361,9 @@ impl<'a, A: Allocator + Copy> BridgeRun<'a, A> {
     }
 
     /// Returns the input capture for the port at the other end of a link: the frames that `port` sent, delayed by `delay` ns. The capture
-    /// is empty if the port is missing. `capture_over_link` calls it.
+    /// has no octets if the bridge sent none.
+    ///
+    /// `capture_over_link` calls it.
     pub(crate) fn delivered_capture(
         &self,
         alloc: A,

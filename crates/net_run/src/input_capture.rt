@@ -79,9 +79,9 @@ fn copy_sink<A: Allocator + Copy>(alloc: A, octets: &[u8]) -> Result<VecSink<A>,
 pub(crate) struct InputCapture<A: Allocator + Copy> {
     /// Octets of the capture if `sent` is `None`.
     octets: Vec<u8, A>,
-    /// Capture that the link's sender sent.
+    /// Capture that the link's sender sent; `None` if the input has octets of its own.
     sent: Option<SharedCapture<A>>,
-    /// Delay of the link in ns.
+    /// Delay of the link in ns; 0 if `sent` is `None`.
     delay: u64,
 }
 
@@ -95,7 +95,7 @@ impl<A: Allocator + Copy> Model for InputCapture<A> {
 }
 
 impl<A: Allocator + Copy> InputCapture<A> {
-    /// Returns the input capture with these octets: the capture of an open port, or a capture without frames. `delivered_capture`,
+    /// Returns the input capture with these octets: for an open port, or if no bridge has sent a capture to the port. `delivered_capture`,
     /// `input_captures` and `capture_over_link` call it.
     pub(crate) fn from_octets(octets: Vec<u8, A>) -> InputCapture<A>
         ensures { result ≡ octets.items }
@@ -136,7 +136,7 @@ impl<A: Allocator + Copy> InputCapture<A> {
     }
 
     /// Returns whether both inputs arrive over links with equal delays from captures with equal octets. Then both inputs have equal octets,
-    /// without copying them. `has_same_octets` calls it.
+    /// and `has_same_octets` needn't copy them.
     fn has_same_sender_octets(&self, other: &InputCapture<A>) -> bool
         ensures { result ≡ true → self.now ≡ other.now }
     {

@@ -37,8 +37,8 @@ pub enum RoundsFault {
     /// Bridge `bridge`, an index from 0, refuses a capture: it is the first bridge of the round with a fault. `fault` is never a failed
     /// read or write, because all captures are in memory.
     Bridge { bridge: usize, fault: RunFault },
-    /// In the last allowed round, this linked port still received other frames than in the round before. It is the first such port. With 0
-    /// rounds, both numbers are 0.
+    /// In the last allowed round, the input of linked port `port` of bridge `bridge`, an index from 0, still changed. It is the first such
+    /// port. With 0 rounds, both numbers are 0.
     NotSettled { bridge: usize, port: u8 },
     /// Memory ran out.
     NoMemory,
@@ -62,8 +62,8 @@ pub struct SettledNetwork<A: Allocator + Copy> {
     pub rounds: u32,
 }
 
-/// Returns the input capture that a link delivers from `sender`: its sent frames, later by the link's delay. The capture is empty if the
-/// sending bridge is missing. `deliver_capture` calls it.
+/// Returns the input capture that a link delivers from `sender`: its sent frames, later by the link's delay. The capture has no octets if
+/// the sending bridge is missing. `deliver_capture` calls it.
 fn capture_over_link<A: Allocator + Copy>(
     alloc: A,
     stations: &[BridgeRun<'_, A>],
@@ -115,8 +115,10 @@ fn deliver_capture<A: Allocator + Copy>(
     Ok(Some(port))
 }
 
-/// Delivers to port index `place` of bridge `bridge` the frames sent to it, if its sender ran in this round (`ran`). Returns the port's
-/// number if its input changed. `feed_bridge` calls it.
+/// Delivers to port index `place` of bridge `bridge` the frames sent to it, unless its sender skipped this round. `ran` has for each bridge
+/// whether it ran.
+///
+/// Returns the port's number if its input changed, otherwise `None`. `feed_bridge` calls it.
 fn feed_port<A: Allocator + Copy>(
     alloc: A,
     stations: &mut [BridgeRun<'_, A>],
@@ -363,10 +365,10 @@ fn assert_network<A: Allocator + Copy>(network: &Network<A>)
     let _streams = network.streams();
 }
 
-/// Runs a network in at most `rounds` rounds, until each link delivers exactly the frames that its sender sent. `watch` gets a report
-/// before each bridge's run. `net` runs networks by it.
+/// Runs a network in at most `rounds` rounds, until each link delivers exactly the frames that its sender sent. If an input still changes
+/// after the last round, returns `NotSettled`.
 ///
-/// `run_network_folders` of `app_networks` calls it.
+/// `watch` gets a report before each bridge's run. `run_network_folders` of `app_networks` calls it for `net`.
 pub fn run_network<A: Allocator + Copy, W: RoundObserver>(
     alloc: A,
     network: &Network<A>,

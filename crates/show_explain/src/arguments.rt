@@ -1,4 +1,4 @@
-//! Explains why arguments are refused. `clap` has refused them; this file finds the fault again, because its sentences name a remedy.
+//! Explains why arguments are refused. `clap` has refused them; this file finds the fault again, to name a remedy.
 ghost use Rattle.std.specs.Prelude.{IfOk, codes, string_bytes};
 ghost use Rattle.bridge_text.specs.PathPrefix.{StartsWithName};
 
@@ -193,7 +193,8 @@ fn has_option(call: &Usage, name: &str) -> bool {
     false
 }
 
-/// Returns whether one of the arguments is option `name`, with or without `=` and a value. `option_fault` finds repeated options by it.
+/// Returns whether one of the arguments is option `name`, with or without `=` and a value. `option_fault` calls it to find repeated
+/// options.
 fn has_word(words: &[String], name: &str) -> bool {
     for word in words {
         if option_name(word.as_str()) == Some(name) {
@@ -296,8 +297,8 @@ fn put_wrong(said: &mut Said, call: &Usage, name: &str, fault: OptionFault) {
     }
 }
 
-/// Returns a command's reason without its first sentence, which is about options, unless it has no other. `put_reason` calls it if no
-/// option is at fault.
+/// Returns a command's reason without its first sentence, which is about options. If the reason has no other sentence, returns all of it.
+/// `put_reason` calls it if no option is at fault.
 fn reason_alone(reason: &'static str) -> &'static str {
     match reason.strip_prefix(ANY_OPTION) {
         Some(rest) if !rest.is_empty() => rest,

@@ -34,7 +34,7 @@ fn file_kind(octets: &[u8]) -> Option<&'static str> {
 }
 
 /// Explains why the capture at `path` is refused by `fault`: the kind of the file, and a command that converts it. `octets` are the file's
-/// first octets. The explanation begins with `path`. `app_commands` calls it.
+/// first octets. The explanation begins with `path`. `explain_run` calls it.
 pub fn explain_capture(
     alloc: Global,
     path: &str,

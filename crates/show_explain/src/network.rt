@@ -204,8 +204,8 @@ fn put_excluded_key(
     );
 }
 
-/// Returns the first key of a traffic row that its limit (burst or frames) excludes, and the first key of this limit. `None` if no key is
-/// excluded. `put_excluded_key` calls it.
+/// Returns the first key of a traffic row that its limit (burst or frames) excludes, and the first key of this limit. Returns `None` if no
+/// key is excluded. `put_excluded_key` calls it.
 fn excluded_key(table: &Table) -> Option<(NetField, NetField)> {
     let limit = first_present(table, &LIMIT_KEYS)?;
     let allowed: &[NetField] = if let NetField::Frames = limit {

@@ -6,7 +6,7 @@ use toml::Table;
 use toml::de::Error;
 
 /// Returns the text and the document in these octets. If they aren't UTF-8 or TOML, writes the position and the reason, and returns `None`.
-/// Explanations of all such files begin with it.
+/// Explanations of all files that aren't TOML begin with this position.
 ///
 /// `file_explanation` and `put_document_fault` call it.
 pub(crate) fn read_document<'a>(
@@ -70,8 +70,8 @@ fn word_with_context(text: &str, place: usize) -> (Option<u8>, &str) {
     (before, text.get(start..end).unwrap_or(""))
 }
 
-/// Returns a hint for a word that stands where a value is expected: how to write true, false or a text. Empty for other words.
-/// `put_syntax_error` calls it.
+/// Returns a hint for a word that stands where a value is expected: how to write true, false or a text. Returns an empty text for other
+/// words. `put_syntax_error` calls it.
 fn quoting_hint(word: &str) -> &'static str {
     let first = word.as_bytes().first().copied().unwrap_or(b'-');
     if word.eq_ignore_ascii_case("true") || word.eq_ignore_ascii_case("yes") {

@@ -24,7 +24,7 @@ abbrev pub first_other_filter : (FilterPlan → Bool) → ℕ → List (ℕ × F
 first_other_filter test n [] = None
 first_other_filter test n (f ∷ fs) = if not (nat_eq f.0 n) && test f.1 then Some f.0 else first_other_filter test n fs
 
--- True if an optional meter number, such as that of a filter, is `m`.
+-- True if the optional meter number of a filter is `m`.
 abbrev pub is_meter : ℕ → Option ℕ → Bool
 is_meter m None = false
 is_meter m (Some own) = nat_eq own m
@@ -42,7 +42,7 @@ abbrev pub taker_at : FilterPlan → ℕ → ℕ → List (ℕ × FilterPlan) �
 taker_at filter n k [] = None
 taker_at filter n k (f ∷ fs) = if nat_lt f.0 n && takes_at k f.1 filter then Some f.0 else taker_at filter n k fs
 
--- True if an optional number, such as that of a filter, is present.
+-- True if an optional number of a filter is present.
 abbrev pub is_number : Option ℕ → Bool
 is_number None = false
 is_number (Some n) = true
@@ -61,7 +61,7 @@ abbrev pub tested_with : ℕ → List (ℕ × FilterPlan) → Option ℕ
 tested_with gate [] = None
 tested_with gate (f ∷ fs) = if nat_eq f.1.gate gate && is_tested f.1 then Some f.0 else tested_with gate fs
 
--- True if one of the filters uses stream gate `gate`; otherwise the gate gets a warning.
+-- True if one of the filters uses stream gate `gate`.
 abbrev pub is_used : ℕ → List (ℕ × FilterPlan) → Bool
 is_used gate [] = false
 is_used gate (f ∷ fs) = nat_eq f.1.gate gate || is_used gate fs

@@ -200,7 +200,7 @@ fn other_with_gate(filters: &[(u32, FilterPlan)], number: u32, gate: u32) -> Opt
     None
 }
 
-/// Returns whether a filter uses meter `meter`; false without a meter. `other_with_meter` calls it.
+/// Returns whether a filter uses meter `meter`, and false without a meter. `other_with_meter` calls it.
 fn has_meter(filter: &FilterPlan, meter: u32) -> bool
     ensures { result ≡ spec.has_meter meter filter.now }
 {
@@ -476,8 +476,10 @@ fn put_window<A: Allocator + Copy>(
     said.put_template(window_remedy(state.is_some(), is_other), &numbers, &[]);
 }
 
-/// Returns the remedy for a shared window: class `{2}` of port `{1}` gets its own window. `has_list`: the port has a list. `is_second`:
-/// another remedy precedes. `put_window` calls it.
+/// Returns the remedy for a shared window: class `{2}` of port `{1}` gets its own window. `has_list` is true if the port has a list,
+/// `is_second` if another remedy precedes.
+///
+/// `put_window` calls it.
 fn window_remedy(has_list: bool, is_second: bool) -> &'static str {
     match (has_list, is_second) {
         (true, false) =>

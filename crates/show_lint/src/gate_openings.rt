@@ -113,8 +113,8 @@ fn set_port_time(times: &mut [u64; 16], port: u8, time: u64) {
     }
 }
 
-/// Duration of an open entry and its cycle time in ns. `is_alone`: no other entry opens the stream gate, so frames may begin before the
-/// entry.
+/// Duration of an open entry and its cycle time, in ns. `is_alone` is true if no other entry opens the stream gate; then frames may begin
+/// before the entry.
 #[derive(Clone, Copy)]
 struct OpeningSpan {
     duration: u64,
@@ -163,7 +163,7 @@ impl OfferedLoad {
     }
 }
 
-/// Entry in which a stream gate is open: its place in the cycle, and the frames that queues receive from it in a burst.
+/// Entry in which a stream gate is open: its offset in the cycle, and the frames that queues receive in a burst during the entry.
 #[derive(Clone, Copy)]
 pub(crate) struct GateOpening {
     /// Offset of the entry from the cycle's start in ns.

@@ -76,8 +76,8 @@ fn waits_by_cycle<A: Allocator + Copy>(
     waits
 }
 
-/// Returns the waits of frames of class `class` that arrive when a stream gate opens: at `first` and then every `cycle` ns. `None` if
-/// frames of `occupied` ns never fit. `opening_waits` calls it.
+/// Returns the waits of frames of class `class` that arrive when a stream gate opens: at `first` and then every `cycle` ns. Returns `None`
+/// if frames of `occupied` ns never fit. `opening_waits` calls it.
 pub(crate) fn gate_waits<A: Allocator + Copy>(
     list: &CyclicList<u8, A>,
     class: u8,

@@ -113,7 +113,7 @@ fn queue_sharers<A: Allocator + Copy>(plan: &Plan<A>, row: &SharedQueue) -> Shar
     sharers
 }
 
-/// Whether a filter is in the group. `queue_sharers`, `first_of_group` and `put_group` call it.
+/// Returns whether a filter is in group `group`. `queue_sharers`, `first_of_group` and `put_group` call it.
 fn is_in_group(filter: &FilterPlan, group: u32) -> bool {
     match filter.group {
         Some(own) => own == group,

@@ -62,8 +62,11 @@ fn has_small_buckets(limits: &MeterPlan, octets: u32) -> bool {
     limits.cbs < octets && (limits.drop_yellow || limits.ebs < octets)
 }
 
-/// Adds a warning if the buckets of filter `filter`'s meter are smaller than its longest frame, which has `octets` metered octets. Smaller
-/// than the shortest frame is warning `NoToken`. `find_meter_warnings` calls it.
+/// Adds a warning if the buckets of filter `filter`'s meter are smaller than its longest frame, which has `octets` metered octets.
+///
+/// Adds none if they are smaller than the shortest frame, for which there is the warning `NoToken`.
+///
+/// `find_meter_warnings` calls it.
 fn find_burst(
     found: &mut Vec<Warning>,
     filter: u32,

@@ -39,8 +39,8 @@ pub fn describe_plan(
     said.finish()
 }
 
-/// Returns the warnings of an accepted plan, one for each line, for `plan_notes` of app_commands. `idle` is the line of a schedule change
-/// without effect (`idle_change`).
+/// Returns the warnings of an accepted plan, one for each line. `idle` is the line of a schedule change without effect (`idle_change`).
+/// `plan_notes` of `app_commands` calls it.
 pub fn write_warnings<A: Allocator + Copy>(
     alloc: Global,
     accepted: &Accepted<A>,

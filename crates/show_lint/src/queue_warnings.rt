@@ -8,7 +8,7 @@ use crate::warning::{LongWait, QueueId, QueueOverload, SmallQueue, Warning};
 use bridge_cycle::{CyclicList, Timeline, is_open};
 use std::alloc::{AllocError, Allocator};
 
-/// A wait gives a warning if it is at least this part of the port's cycle: a quarter. Shorter waits are usual.
+/// A wait gives a warning only if it is at least the port's cycle divided by this number. Shorter waits are usual.
 const PART_OF_CYCLE: u64 = 4;
 
 /// Queue of a protected filter at one stage of the schedule, with the times of its stream gate and the list of its port.

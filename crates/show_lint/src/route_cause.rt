@@ -67,7 +67,7 @@ fn route_cause<A: Allocator + Copy>(
 }
 
 /// Writes why frames of filter `number` can reach port `port`: the first stream that leads there, or that any frame can.
-/// `check_explanation` calls it.
+/// `put_shared_queue`, `put_window` and `put_unfit_length` call it.
 pub(crate) fn put_route<A: Allocator + Copy>(
     said: &mut LintText,
     plan: &Plan<A>,
@@ -97,7 +97,7 @@ const NEED_KIND: &str =
 
 /// Returns the number in the plan, from 1, and the cause of the first stream that leads frames of `handle` to `port`.
 ///
-/// `None` if no stream leads there, or one does by a `static` entry, as intended. `put_other_way` calls it.
+/// Returns `None` if no stream leads there, or one does by a `static` entry, as intended. `put_other_way` calls it.
 fn other_way<A: Allocator + Copy>(
     plan: &Plan<A>,
     handle: u32,

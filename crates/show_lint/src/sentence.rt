@@ -65,7 +65,7 @@ const FLOODED: &str =
     "Warning: `stream` {1} of filter {0} (protected) leaves by all other ports of VLAN {2}, because no `static` entry has its address. Add a `static` entry with the egress ports.\n";
 
 /// Writes the sentence of warning `advice`: a line that begins with `Warning: `. If the remedy isn't obvious, the line states it.
-/// `put_warnings` calls it.
+/// `put_warnings`, and `unprotected_warning` of `app_commands` call it.
 pub fn put_warning<A: Allocator>(said: &mut TextBuilder<A>, advice: &Warning) {
     match advice {
         Warning::IdleChange { line } => said.put_template(IDLE, &[*line as u64], &[]),

@@ -75,7 +75,7 @@ fn is_sent_to_ingress(stream: &StreamEntry, statics: &[StaticEntry]) -> bool {
     }
 }
 
-/// Returns whether the stream gate with number `number` is always closed; false if the plan lacks it. `are_strays` calls it.
+/// Returns whether the stream gate with number `number` is always closed, and false if the plan lacks it. `are_strays` calls it.
 fn is_gate_closed<A: Allocator + Copy>(gates: &[(u32, GatePlan<A>)], number: u32) -> bool {
     for gate in gates {
         if gate.0 == number {
@@ -140,8 +140,8 @@ fn is_always_closed<A: Allocator + Copy>(gate: &GatePlan<A>) -> bool {
     }
 }
 
-/// Returns the time in ns of the schedule change that closes a stream gate for ever. `None` without a change, if the gate opens after it,
-/// or never opened before. `find_gates` calls it.
+/// Returns the time in ns of the schedule change that closes a stream gate for ever. Returns `None` without a change, if the gate opens
+/// after it, or never opened before. `find_gates` calls it.
 fn closing_time<A: Allocator + Copy>(gate: &GatePlan<A>) -> Option<u64> {
     match &gate.schedule {
         Schedule::Joined(joined) => {

@@ -69,7 +69,7 @@ pub enum ScheduleStage {
 /// Stream whose static entry names its ingress port. A bridge never sends a frame back to its ingress port.
 #[derive(Clone, Copy)]
 pub struct StaticToIngress {
-    /// Position of the stream in the file, from 1.
+    /// Number of the stream in the file, from 1.
     pub place: usize,
     /// Handle of the stream.
     pub handle: u32,
@@ -137,11 +137,11 @@ pub struct LowOctetLimit {
 /// Stream whose frames an earlier stream matches.
 #[derive(Clone, Copy)]
 pub struct HiddenStream {
-    /// Position of the stream in the file, from 1.
+    /// Number of the stream in the file, from 1.
     pub place: usize,
     /// Handle of the stream.
     pub handle: u32,
-    /// Position of the earlier stream, from 1.
+    /// Number of the earlier stream, from 1.
     pub earlier: usize,
     /// Handle of the earlier stream.
     pub other: u32,
@@ -150,13 +150,13 @@ pub struct HiddenStream {
 /// Stream whose frames two earlier streams match together.
 #[derive(Clone, Copy)]
 pub struct HiddenTogether {
-    /// Position of the stream in the file, from 1.
+    /// Number of the stream in the file, from 1.
     pub place: usize,
     /// Handle of the stream.
     pub handle: u32,
-    /// Position of the earlier stream that matches the frames with a VLAN.
+    /// Number of the earlier stream that matches the frames with a VLAN, from 1.
     pub tagged: usize,
-    /// Position of the earlier stream that matches the other frames.
+    /// Number of the earlier stream that matches the other frames, from 1.
     pub untagged: usize,
 }
 
@@ -178,7 +178,7 @@ pub struct NeverOpen {
 pub struct Flooded {
     /// Number of the protected filter.
     pub filter: u32,
-    /// Position of the stream in the file, from 1.
+    /// Number of the stream in the file, from 1.
     pub place: usize,
     /// VLAN of the stream.
     pub vid: u16,
@@ -208,7 +208,7 @@ pub enum NotForwardedCause {
 pub struct NotForwarded {
     /// Number of the protected filter.
     pub filter: u32,
-    /// Position of the stream in the file, from 1.
+    /// Number of the stream in the file, from 1.
     pub place: usize,
     /// Ingress port of the stream.
     pub port: u8,
@@ -223,7 +223,7 @@ pub struct NotForwarded {
 pub struct NonMemberPort {
     /// Number of the protected filter.
     pub filter: u32,
-    /// Position of the stream in the file, from 1.
+    /// Number of the stream in the file, from 1.
     pub place: usize,
     /// Port that isn't a member of the VLAN.
     pub port: u8,
@@ -234,7 +234,7 @@ pub struct NonMemberPort {
 /// Meter whose buckets are smaller than the longest frame of a protected or grouped filter.
 #[derive(Clone, Copy)]
 pub struct SmallBurst {
-    /// Number of the protected filter.
+    /// Number of the protected or grouped filter.
     pub filter: u32,
     /// Number of the meter.
     pub meter: u32,
@@ -253,7 +253,7 @@ pub struct SmallBurst {
 pub struct LowRate {
     /// Schedule to which the stream gate's cycle belongs.
     pub stage: ScheduleStage,
-    /// Number of the protected filter.
+    /// Number of the protected or grouped filter.
     pub filter: u32,
     /// Number of the meter.
     pub meter: u32,

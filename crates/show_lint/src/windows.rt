@@ -91,8 +91,8 @@ fn can_fit(run: Run, speed: Speed, length: u32) -> bool
     run.allows(occupation(length, speed))
 }
 
-/// Returns the length in octets, at most 9,216, of the longest frame that fits a window as long as `run`. `None` if no frame fits. Lengths
-/// exclude the check sequence. `longest_frame_of_class` calls it.
+/// Returns the length in octets, at most 9,216, of the longest frame that fits a window as long as `run`. Returns `None` if no frame fits.
+/// Lengths exclude the check sequence. `longest_frame_of_class` calls it.
 pub(crate) fn longest_frame_in_run(run: Run, speed: Speed) -> Option<u32>
     ensures fits { IfSome result (λ length. Allows run (transmission_time length speed)) }
 {

@@ -33,7 +33,7 @@ pub(crate) struct DrawnFrame {
     pub arrival: u64,
     /// Start of transmission in ns; the arrival time of a refused or dropped frame.
     pub start: u64,
-    /// End of transmission in ns; for a refused or dropped frame, the ns after its arrival.
+    /// End of transmission in ns; for a refused or dropped frame, 1 ns after its arrival.
     pub done: u64,
     /// Reason of a refusal or drop; empty for a frame that left.
     pub cause: &'static str,
@@ -108,8 +108,8 @@ impl DrawnGroup {
         }
     }
 
-    /// Counts a frame at position `x`, or selects it if its time part may have more frames. The current pass decides. `visit_frame` calls
-    /// it.
+    /// Counts a frame, or selects it if its time part may have more frames. `x` is its distance from the left edge, in tenths of a pixel.
+    /// The current pass decides. `visit_frame` calls it.
     fn add_frame(&mut self, pass: Pass, frame: DrawnFrame, x: u64) {
         let part = (x.saturating_sub(AXIS_LEFT) / PART_WIDTH) as usize;
         let place = usize::from(frame.port) * TIME_PARTS + part.min(TIME_PARTS - 1);
@@ -162,8 +162,8 @@ impl DrawnGroup {
 }
 
 impl Picture {
-    /// Hatches the parts of a port's time axis with omitted frames of `group`. `put_port_link` calls it. Bars start `by` below the page's
-    /// lower end; `high` is their height, both in tenths of a pixel.
+    /// Hatches the parts of a port's time axis with omitted frames of `group`. Bars start `by` below the page's lower end and are `high`
+    /// high, both in tenths of a pixel. `put_port_link` calls it.
     pub(crate) fn put_hatches(&mut self, group: &DrawnGroup, port: u8, by: u64, high: u64) {
         let (first, mut x) = (usize::from(port) * TIME_PARTS, AXIS_LEFT);
         for place in 0..TIME_PARTS {

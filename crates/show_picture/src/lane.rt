@@ -171,8 +171,8 @@ impl Picture {
         Window { from, to, open }
     }
 
-    /// Adds an open interval to the current lane's windows, or extends the last window by it. Ignores a closed interval. `collect_windows`
-    /// calls it.
+    /// Adds an open interval to the current lane's windows, or extends the last window by this interval. Ignores a closed interval.
+    /// `collect_windows` calls it.
     fn append_window(&mut self, turn: Window) {
         match self.windows.last_mut() {
             _ if turn.open.is_none() => {}

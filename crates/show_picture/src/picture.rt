@@ -41,7 +41,7 @@ pub(crate) struct Picture {
 
 impl Picture {
     /// Returns an empty picture for this time span. `change` is the time of the schedule change in ns, if the plan has one. `draw_plan` and
-    /// `draw_run` begin with it.
+    /// `draw_run` call it first.
     pub(crate) fn new(alloc: Global, change: Option<u64>, span: Span) -> Picture {
         Picture {
             change,

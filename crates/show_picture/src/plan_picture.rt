@@ -106,8 +106,8 @@ impl Picture {
         self.page.end_text();
     }
 
-    /// Writes the head of a plan's picture: how much of the hypercycle it shows, the schedule change, and the time span. `is_part`:
-    /// arguments select a part of the time. `draw_plan` calls it.
+    /// Writes the head of a plan's picture: how much of the hypercycle it shows, the schedule change, and the time span. `is_part` is true
+    /// if arguments select a part of the time. `draw_plan` calls it.
     fn put_title(&mut self, times: Hypercycle, is_part: bool) {
         let span = self.span;
         self.begin_head("plan");

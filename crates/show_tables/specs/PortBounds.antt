@@ -28,7 +28,7 @@ pub record AreClassBounds {A : Type 0} (p : Plan A) (n q classes : ℕ) (bounds 
   pub many : length bounds ≡ classes
   pub each : AreBoundsByClass p n q bounds
 
--- Holds if `bound` is the greatest least bound of the first `classes` classes of port `q`.
+-- Holds if `bound` is the greatest of the least bounds of filter `n` for the first `classes` classes of port `q`.
 pub record IsGreatestBound {A : Type 0} (p : Plan A) (n q classes : ℕ) (bound : Option ℕ) : Type 0 where
   pub bounds : List (Option ℕ)
   pub are : AreClassBounds p n q classes bounds

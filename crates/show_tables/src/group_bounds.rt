@@ -22,7 +22,8 @@ fn filter_group(filters: &[(u32, FilterPlan)], filter: u32) -> Option<u32>
     }
 }
 
-/// Returns the least bound of a shared queue in ns if it is a queue of group `group` at port `port`, otherwise `None`. `group_bound` calls it.
+/// Returns the least bound of a shared queue in ns if it is a queue of group `group` at port `port`, otherwise `None`. `group_bound` calls
+/// it.
 fn bound_at(queue: &SharedQueue, group: u32, port: u8) -> Option<u64>
     ensures { result ≡ spec.bound_at group port queue.now }
 {

@@ -19,8 +19,9 @@ pub(crate) fn greater_bound(one: Option<u64>, other: Option<u64>) -> Option<u64>
     }
 }
 
-/// Returns the delay bound in ns of `port` for a filter: the greatest of the bounds that `bounds` prints for its classes. `None` if the
-/// filter is unprotected or has no queue there. `port_bounds` calls it.
+/// Returns the delay bound in ns of `port` for a filter: the greatest of the bounds that `bounds` prints for its classes.
+///
+/// Returns `None` if the filter is unprotected or has no queue there. `port_bounds` calls it.
 fn port_bound<A: Allocator + Copy>(accepted: &Accepted<A>, filter: u32, port: u8) -> Option<u64>
     requires from { 1 ≤ port }
     requires to { port ≤ 16 }
@@ -33,8 +34,8 @@ fn port_bound<A: Allocator + Copy>(accepted: &Accepted<A>, filter: u32, port: u8
     bound
 }
 
-/// Returns the delay bounds in ns of ports 1 to 16 for a filter. `None` for a port at which the filter has no queue, or an unprotected
-/// filter. `filter_bounds` calls it.
+/// Returns the delay bounds in ns of ports 1 to 16 for a filter. Returns `None` for a port at which the filter has no queue, or an
+/// unprotected filter. `filter_bounds` calls it.
 pub(crate) fn port_bounds<A: Allocator + Copy>(
     alloc: A,
     accepted: &Accepted<A>,
