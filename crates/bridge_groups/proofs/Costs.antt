@@ -32,6 +32,7 @@ use Rattle.bridge_groups.specs.Curves.{AreArrivalsInOrder, AreSharers, curve_sum
 use Rattle.bridge_check.specs.Acceptable.{HasAcceptableGroups}
 use Rattle.bridge_semantics.specs.Groups.{IsGroupQueue}
 use Rattle.bridge_groups.proofs.Shares as shares
+use Rattle.bridge_groups.proofs.OfferLists.{offers_keep}
 use Rattle.bridge_groups.proofs.Sharing as sharing
 use Rattle.bridge_groups.proofs.Sums.{AreSharerOffers}
 use Rattle.bridge_semantics.proofs.GroupMembers as members
@@ -130,30 +131,20 @@ copies_cost cost curve (x ∷ xs) keep = ((λ u w at. subst (λ (n : ℕ). n ≤
 
 module _ {A : Type 0} (p : Plan A) (group : ℕ) (sharers : List (ℕ × FilterPlan)) (q c sdu : ℕ) (out : PortPlan A) (plan : IsPlan p) (is : HasAcceptableGroups p) (at : find_port p.ports q ≡ Some out) (reached : IsGroupQueue p group q c) (share : AreSharers p group q c sdu sharers)
     (fit : ℕ) (own : ℕ → ℕ → ℕ) (limits : (n : ℕ) (f : FilterPlan) → IsMember (n, f) sharers → HasFilterCostCurve p out c n (frame_cost fit out.speed) (own n)) where
-  arrived_cost : (a : Arrival) (es : List Event) → AreArrivalsInOrder (Arrived a ∷ es) → HasOfferCostCurve (frame_cost fit out.speed) (curve_sum own sharers) (class_offers c (port_offers p out es)) → HasOfferCostCurve (frame_cost fit out.speed) (curve_sum own sharers) (class_offers c (port_offers p out (Arrived a ∷ es)))
-  arrived_cost a es order before = elim (sharing.one_by_way p out a es (frame_destination p a)) [
-    | inl none ↦ rw none before
-    | inr one ↦
-        let (o, same, moment) = one in
-        by_bool (nat_eq o.class c)
-        (λ k.
-        let list : class_offers c (port_offers p out (Arrived a ∷ es)) ≡ o ∷ class_offers c (port_offers p out es) = rw (same, k) refl in
-        let keep : (u w : ℕ) → last_arrival_time (Arrived a ∷ es) ≤ u + w → recent_offer_cost (frame_cost fit out.speed) u (class_offers c (port_offers p out (Arrived a ∷ es))) ≤ curve_sum own sharers w = λ u w upto.
-        let os = class_offers c (port_offers p out (Arrived a ∷ es)) in
-        let flows = cost_by_flows (frame_cost fit out.speed) sharers u os (sharing.offers_of p group sharers q c sdu out plan is at reached share (Arrived a ∷ es)) in
-        let all = flows_limited (frame_cost fit out.speed) own sharers u w os (λ n f i. limits n f i u w (Arrived a ∷ es) order upto) in
-        omega (arith, flows, all) in
-        subst (HasOfferCostCurve (frame_cost fit out.speed) (curve_sum own sharers)) (sym list)
-        ((λ u w from. subst (λ (os : List Offer). recent_offer_cost (frame_cost fit out.speed) u os ≤ curve_sum own sharers w) list (keep u w (omega (arith, from, moment)))), before))
-        (λ k.
-        let list : class_offers c (port_offers p out (Arrived a ∷ es)) ≡ class_offers c (port_offers p out es) = rw (same, k) refl in
-        subst (HasOfferCostCurve (frame_cost fit out.speed) (curve_sum own sharers)) (sym list) before)
-  ]
+  abbrev KeepsCosts : List Offer → Type 0
+  KeepsCosts os = HasOfferCostCurve (frame_cost fit out.speed) (curve_sum own sharers) os
 
-  offers_keep : (es : List Event) → AreArrivalsInOrder es → HasOfferCostCurve (frame_cost fit out.speed) (curve_sum own sharers) (class_offers c (port_offers p out es))
-  offers_keep [] order = tt
-  offers_keep (Cleared d k ∷ es) order = offers_keep es order
-  offers_keep (Arrived a ∷ es) order = arrived_cost a es order (offers_keep es order.1)
+  keep_costs : (es : List Event) → AreArrivalsInOrder es → KeepsCosts (class_offers c (port_offers p out es))
+  keep_costs es order =
+      offers_keep p out c AreArrivalsInOrder KeepsCosts tt (λ a ds fine. fine.1) (λ d k ds fine. fine)
+      (λ a ds o fine list moment before.
+      let keep : (u w : ℕ) → last_arrival_time (Arrived a ∷ ds) ≤ u + w → recent_offer_cost (frame_cost fit out.speed) u (class_offers c (port_offers p out (Arrived a ∷ ds))) ≤ curve_sum own sharers w = λ u w upto.
+      let os = class_offers c (port_offers p out (Arrived a ∷ ds)) in
+      let flows = cost_by_flows (frame_cost fit out.speed) sharers u os (sharing.offers_of p group sharers q c sdu out plan is at reached share (Arrived a ∷ ds)) in
+      let all = flows_limited (frame_cost fit out.speed) own sharers u w os (λ n f i. limits n f i u w (Arrived a ∷ ds) fine upto) in
+      omega (arith, flows, all) in
+      ((λ u w from. subst (λ (os : List Offer). recent_offer_cost (frame_cost fit out.speed) u os ≤ curve_sum own sharers w) list (keep u w (omega (arith, from, moment)))), before))
+      es order
 
   -- A copy that started leaves within the delay bound by costs.
   pub charged : (es : List Event) (moments : ℕ → ℕ) (lists : ℕ → List (Copy CarriedFrame)) (b s : ℕ) (x : Copy CarriedFrame) → IsRun p es moments lists → AreFinished lists → AreArrivalsInOrder es → 1 ≤ fit
@@ -162,7 +153,7 @@ module _ {A : Type 0} (p : Plan A) (group : ℕ) (sharers : List (ℕ × FilterP
   charged es moments lists b s x run whole order one wide within i class started =
       let xs = class_copies c (lists q) in
       let same : copy_offers xs ≡ class_offers c (port_offers p out es) = members.offered_only c (lists q) ∙ ap (class_offers c) (run.offers q out at) in
-      let keeps = copies_cost (frame_cost fit out.speed) (curve_sum own sharers) xs (subst (HasOfferCostCurve (frame_cost fit out.speed) (curve_sum own sharers)) (sym same) (offers_keep es order)) in
+      let keeps = copies_cost (frame_cost fit out.speed) (curve_sum own sharers) xs (subst (HasOfferCostCurve (frame_cost fit out.speed) (curve_sum own sharers)) (sym same) (keep_costs es order)) in
       let between = sharing.between p group sharers q c sdu out plan is at reached share es moments lists run whole in
       let alone = sharing.alone p group sharers q c sdu out plan is at reached share es moments lists run whole in
       let paid : HaveSufficientCosts (egress_rules out) (λ (y : CarriedFrame). frame_cost fit out.speed y.len) c (transmission_time 60 out.speed) fit xs = λ y j.

@@ -1,6 +1,8 @@
 -- A delay bound, a queue capacity and a cost, for a class that is always open.
 use Rattle.std.proofs.Common.{◌≤◌, ◌+◌, ℕ, Bool, true, arith, refl}
 use Rattle.bridge_cycle.specs.Fits.{IsFirstFit}
+use Rattle.bridge_groups.specs.ApartGates.{AreListsApart}
+use Rattle.bridge_groups.specs.CurveExamples.{both_gates, later_openings, short_openings}
 use Rattle.bridge_groups.specs.Work.{IsDelayBound, IsNthFit, IsSufficientCost, IsSufficientRoom}
 use Rattle.bridge_groups.proofs.Candidates.{always_in_burst}
 
@@ -29,3 +31,7 @@ room_for_two_frames = record { has_fit = λ u. (u, first_fit u); has_place = ome
 -- If the longest frames are counted, the transmission time is a sufficient cost.
 pub cost_of_a_frame : IsSufficientCost always 672 672 672 672
 cost_of_a_frame = record { least_time = omega arith; covers_time = omega arith; fits_soon = λ v z is. let after = is.after in (z, after, omega arith, (λ u p q. refl)) }
+
+-- Two stream gates that are both open at 3 ns aren't apart in time.
+pub not_apart : AreListsApart both_gates 1 → ⊥
+not_apart apart = let late = apart 0 1 3 3 short_openings later_openings refl refl (λ e. absurd (omega (arith, e))) refl refl (omega arith) in omega (arith, late)

@@ -25,6 +25,7 @@ use Rattle.bridge_groups.specs.Curves.{AreArrivalsInOrder, HaveMeters, AreSharer
 use Rattle.bridge_check.specs.Acceptable.{HasAcceptableGroups}
 use Rattle.bridge_semantics.specs.Groups.{IsGroupQueue}
 use Rattle.bridge_groups.specs.Departures.{HaveConformingDepartures, copy_passage, filter_passages}
+use Rattle.bridge_groups.proofs.OfferLists.{offers_keep}
 use Rattle.bridge_groups.proofs.Sharing as sharing
 use Rattle.bridge_semantics.proofs.GroupMembers as members
 
@@ -101,25 +102,15 @@ starts_after r x s (y ∷ ys) solo (inl same) started =
 starts_after r x s (y ∷ ys) solo (inr i) started = starts_after r x s ys solo.1 i started
 
 module _ {A : Type 0} (p : Plan A) (group : ℕ) (sharers : List (ℕ × FilterPlan)) (q c sdu : ℕ) (out : PortPlan A) (plan : IsPlan p) (is : HasAcceptableGroups p) (at : find_port p.ports q ≡ Some out) (reached : IsGroupQueue p group q c) (share : AreSharers p group q c sdu sharers) (metered_all : HaveMeters sharers) (n m : ℕ) (f : FilterPlan) (sharer : IsMember (n, f) sharers) (own_meter : f.meter ≡ Some m) where
-  arrived_octets : (a : Arrival) (es : List Event) → AreArrivalsInOrder (Arrived a ∷ es) → HasOctetCurve n (optional_burst (plan_police p).meters f.meter) (optional_rate (plan_police p).meters f.meter) (class_offers c (port_offers p out es)) → HasOctetCurve n (optional_burst (plan_police p).meters f.meter) (optional_rate (plan_police p).meters f.meter) (class_offers c (port_offers p out (Arrived a ∷ es)))
-  arrived_octets a es order before = elim (sharing.one_by_way p out a es (frame_destination p a)) [
-    | inl none ↦ rw none before
-    | inr one ↦
-        let (o, same, moment) = one in
-        by_bool (nat_eq o.class c)
-        (λ k.
-        let list : class_offers c (port_offers p out (Arrived a ∷ es)) ≡ o ∷ class_offers c (port_offers p out es) = rw (same, k) refl in
-        subst (HasOctetCurve n (optional_burst (plan_police p).meters f.meter) (optional_rate (plan_police p).meters f.meter)) (sym list)
-        ((λ u w from. subst (λ (os : List Offer). recent_filter_octets n u os * octet_units ≤ optional_burst (plan_police p).meters f.meter * octet_units + optional_rate (plan_police p).meters f.meter * w) list (sharing.allowed_by p group sharers q c sdu out plan is at reached share n f m u w (Arrived a ∷ es) sharer own_meter order (omega (arith, from, moment)))), before))
-        (λ k.
-        let list : class_offers c (port_offers p out (Arrived a ∷ es)) ≡ class_offers c (port_offers p out es) = rw (same, k) refl in
-        subst (HasOctetCurve n (optional_burst (plan_police p).meters f.meter) (optional_rate (plan_police p).meters f.meter)) (sym list) before)
-  ]
+  abbrev KeepsMeter : List Offer → Type 0
+  KeepsMeter os = HasOctetCurve n (optional_burst (plan_police p).meters f.meter) (optional_rate (plan_police p).meters f.meter) os
 
-  offers_octets : (es : List Event) → AreArrivalsInOrder es → HasOctetCurve n (optional_burst (plan_police p).meters f.meter) (optional_rate (plan_police p).meters f.meter) (class_offers c (port_offers p out es))
-  offers_octets [] order = tt
-  offers_octets (Cleared d k ∷ es) order = offers_octets es order
-  offers_octets (Arrived a ∷ es) order = arrived_octets a es order (offers_octets es order.1)
+  offers_octets : (es : List Event) → AreArrivalsInOrder es → KeepsMeter (class_offers c (port_offers p out es))
+  offers_octets es order =
+      offers_keep p out c AreArrivalsInOrder KeepsMeter tt (λ a ds fine. fine.1) (λ d k ds fine. fine)
+      (λ a ds o fine list moment before.
+      ((λ u w from. subst (λ (os : List Offer). recent_filter_octets n u os * octet_units ≤ optional_burst (plan_police p).meters f.meter * octet_units + optional_rate (plan_police p).meters f.meter * w) list (sharing.allowed_by p group sharers q c sdu out plan is at reached share n f m u w (Arrived a ∷ ds) sharer own_meter fine (omega (arith, from, moment)))), before))
+      es order
 
   -- Frames that a filter's meter passes leave the queue with the meter's burst and rate, whatever its talker sends.
   pub departures_conform : (es : List Event) (moments : ℕ → ℕ) (lists : ℕ → List (Copy CarriedFrame)) (b : ℕ) → IsRun p es moments lists → AreFinished lists → AreArrivalsInOrder es

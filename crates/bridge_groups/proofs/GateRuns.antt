@@ -53,7 +53,8 @@ use Rattle.bridge_groups.specs.Curves.{AreArrivalsInOrder, has_filter_number, la
 use Rattle.bridge_groups.specs.GateBounds.{HaveSdus, IsGateWorkBound, IsScheduleBound, are_limited}
 use Rattle.bridge_groups.specs.GateLimits.{HasOctetLimits, ended_turn_limits, is_same_turn, octet_budget}
 use Rattle.bridge_groups.proofs.Limits.{work_within_budget}
-use Rattle.bridge_groups.proofs.Sharing.{of_class, one_by_way, only_order}
+use Rattle.bridge_groups.proofs.OfferLists.{offers_keep}
+use Rattle.bridge_groups.proofs.Sharing.{of_class, only_order}
 use Rattle.bridge_groups.proofs.Sums.{least_occupied, work_as}
 
 -- EACH COPY OF A QUEUE
@@ -213,28 +214,19 @@ module _ {A : Type 0} (p : Plan A) (n q c m share : ℕ) (some_share : 1 ≤ sha
         before,
       )
 
-  arrived_keeps : (a : Arrival) (es : List Event) → AreArrivalsInOrder (Arrived a ∷ es) → HaveSdus share (Arrived a ∷ es) → AreOwn (Arrived a ∷ es) → KeepsIntervals (class_offers c (port_offers p out es)) → KeepsIntervals (class_offers c (port_offers p out (Arrived a ∷ es)))
-  arrived_keeps a es order long own before = elim (one_by_way p out a es (frame_destination p a)) [
-    | inl none ↦ rw none before
-    | inr one ↦
-        let (o, same, moment) = one in
-        by_bool (nat_eq o.class c)
-        (λ k.
-        let list : class_offers c (port_offers p out (Arrived a ∷ es)) ≡ o ∷ class_offers c (port_offers p out es) = rw (same, k) refl in
-        subst KeepsIntervals (sym list) (one_more a es o (class_offers c (port_offers p out es)) order long own list moment before))
-        (λ k.
-        let list : class_offers c (port_offers p out (Arrived a ∷ es)) ≡ class_offers c (port_offers p out es) = rw (same, k) refl in
-        subst KeepsIntervals (sym list) before)
-  ]
+  -- Holds if events are in order with long enough SDUs, and only the filter offers copies of the class.
+  abbrev AreFine : List Event → Type 0
+  AreFine es = AreArrivalsInOrder es × HaveSdus share es × ((o : Offer) → IsMember o (port_offers p out es) → o.class ≡ c → o.item.flow ≡ Some n)
 
   -- The offers of the class keep the gate's intervals.
-  offers_keep : (es : List Event) → AreArrivalsInOrder es → HaveSdus share es → ((o : Offer) → IsMember o (port_offers p out es) → o.class ≡ c → o.item.flow ≡ Some n) → KeepsIntervals (class_offers c (port_offers p out es))
-  offers_keep [] order long own = tt
-  offers_keep (Cleared d k ∷ es) order long own = offers_keep es order long own
-  offers_keep (Arrived a ∷ es) order long own =
-      arrived_keeps a es order long
-      (λ o i. let (among, class) = in_class_in c o (port_offers p out (Arrived a ∷ es)) i in own o among class)
-      (offers_keep es order.1 long.1 (λ o i class. own o (in_right o (destination_offer p out a es (frame_destination p a)) (port_offers p out es) i) class))
+  keep_intervals : (es : List Event) → AreFine es → KeepsIntervals (class_offers c (port_offers p out es))
+  keep_intervals es fine =
+      offers_keep p out c AreFine KeepsIntervals tt
+      (λ a ds f. (f.0.1, f.1.0.1, λ o i class. f.1.1 o (in_right o (destination_offer p out a ds (frame_destination p a)) (port_offers p out ds) i) class))
+      (λ d k ds f. f)
+      (λ a ds o f list moment before.
+      one_more a ds o (class_offers c (port_offers p out ds)) f.0 f.1.0 (λ x i. let (among, class) = in_class_in c x (port_offers p out (Arrived a ∷ ds)) i in f.1.1 x among class) list moment before)
+      es fine
 
   module _ (es : List Event) (moments : ℕ → ℕ) (lists : ℕ → List (Copy CarriedFrame)) (run : IsRun p es moments lists) (whole : AreFinished lists) (order : AreArrivalsInOrder es) (long : HaveSdus share es) where
     offered_in : (o : Offer) (xs : List (Copy CarriedFrame)) → IsMember o (copy_offers xs) → (x : Copy CarriedFrame) × IsMember x xs × (as_offer x ≡ o)
@@ -251,7 +243,7 @@ module _ {A : Type 0} (p : Plan A) (n q c m share : ℕ) (some_share : 1 ≤ sha
     keeps : HasIntervalWork (egress_rules out) (gate_opens l) (last_opening l) (opening_work l least share) (class_copies c (lists q))
     keeps =
         let same : copy_offers (class_copies c (lists q)) ≡ class_offers c (port_offers p out es) = members.offered_only c (lists q) ∙ ap (class_offers c) (run.offers q out at) in
-        copies_keep out (gate_opens l) (last_opening l) (opening_work l least share) (class_copies c (lists q)) (subst KeepsIntervals (sym same) (offers_keep es order long all_own))
+        copies_keep out (gate_opens l) (last_opening l) (opening_work l least share) (class_copies c (lists q)) (subst KeepsIntervals (sym same) (keep_intervals es (order, long, all_own)))
 
     between : HaveBoundedTimes (egress_rules out) c least (transmission_time (longest_frame m) out.speed) (class_copies c (lists q))
     between y i =

@@ -43,11 +43,12 @@ use Rattle.bridge_groups.proofs.GateCycles.{opened_turn}
 use Rattle.bridge_groups.proofs.GateOpenings.{opening_before, openings_are_intervals}
 use Rattle.bridge_groups.proofs.GateRuns.{HaveIntervalOffers, closed_limit, copies_keep, each_in_time, limits_of, none_ends}
 use Rattle.bridge_groups.proofs.MergedGates.{limit_more}
+use Rattle.bridge_groups.proofs.OfferLists.{offers_keep}
 use Rattle.bridge_groups.proofs.SharedRuns.{in_time}
 use Rattle.bridge_groups.proofs.Limits.{padded_sdus, work_by_flows, work_within_budget}
 use Rattle.bridge_groups.proofs.SharedQueues.{sharers_are}
 use Rattle.bridge_groups.proofs.Sharing as sharing
-use Rattle.bridge_groups.proofs.Sharing.{one_by_way, only_order}
+use Rattle.bridge_groups.proofs.Sharing.{only_order}
 
 -- THE GATES OF THE FILTERS
 
@@ -72,8 +73,7 @@ lists_lawful p (g ∷ gs) [] are l i = absurd i
 lists_lawful p (g ∷ gs) (k ∷ ls) are l (inl same) = subst IsLawful (sym same) are.0.lawful
 lists_lawful p (g ∷ gs) (k ∷ ls) are l (inr i) = lists_lawful p gs ls are.1 l i
 
-module _ {A : Type 0} (p : Plan A) (group : ℕ) (sharers : List (ℕ × FilterPlan)) (q c sdu share : ℕ) (some_share : 1 ≤ share) (few : share ≤ 44) (out : PortPlan A) (plan : IsPlan p) (good : HasAcceptableGroups p) (at : find_port p.ports q ≡ Some out) (reached : IsGroupQueue p group q c) (are_sharers : AreSharers p group q c sdu sharers)
-    (ls : List (Cyclic GateEntry)) (are : AreGateLists p sharers ls) (m : Cyclic GateEntry) (merged : IsMergedList ls m) where
+module _ {A : Type 0} (p : Plan A) (group : ℕ) (sharers : List (ℕ × FilterPlan)) (q c sdu share : ℕ) (some_share : 1 ≤ share) (few : share ≤ 44) (out : PortPlan A) (plan : IsPlan p) (good : HasAcceptableGroups p) (at : find_port p.ports q ≡ Some out) (reached : IsGroupQueue p group q c) (are_sharers : AreSharers p group q c sdu sharers) where
   abbrev least : ℕ
   least = transmission_time 60 out.speed
 
@@ -88,45 +88,9 @@ module _ {A : Type 0} (p : Plan A) (group : ℕ) (sharers : List (ℕ × FilterP
       let within = work_within_budget p n f plan (are_sharers.members n f i).listed out c u share w es few (subst HasOctetLimits (sym gate) limits) order long upto in
       subst (λ (turns : ℕ → Option (Turn GateEntry)). share * recent_filter_work out.speed n u (offers es) ≤ least * octet_budget turns u w) gate within
 
-  -- From the latest opening, the budget of each gate is the limit of its interval.
-  budget_of_gate : (l : Cyclic GateEntry) → IsMember l ls → IsLawful l → (t : ℕ) → gate_opens m t ≡ true → octet_budget (turn_by_time l) (last_opening m t) (t - last_opening m t) ≡ turn_limit (turn_by_time l t)
-  budget_of_gate l i lawful t opened =
-      let z = last_opening m t in
-      let before = opening_before m merged.lawful t in
-      let (x, here) = cyclic_turn_exists l t lawful in
-      let back : z + (t - z) ≡ t = omega (arith, before) in
-      let none = none_ends (turn_by_time l) x z (t - z) (λ v from upto. merged.same t v l i opened from (omega (arith, upto, back)) ∙ here) in
-      let last : turn_by_time l (z + (t - z)) ≡ turn_by_time l t = ap (turn_by_time l) back in
-      rw (none, last) (omega arith)
-
-  -- The work of filters since the latest opening is at most the sum of their gates' limits.
-  all_work : (gs : List (ℕ × FilterPlan)) (ks : List (Cyclic GateEntry)) → AreGateLists p gs ks → ((n : ℕ) (f : FilterPlan) → IsMember (n, f) gs → IsMember (n, f) sharers) → ((l : Cyclic GateEntry) → IsMember l ks → IsMember l ls) → (t : ℕ) (es : List Event) → gate_opens m t ≡ true → AreArrivalsInOrder es → HaveSdus share es → last_arrival_time es ≤ t → share * recent_sharer_work out.speed gs (last_opening m t) (offers es) ≤ least * limit_sum ks t
-  all_work [] ks own among listed t es opened order long upto = omega arith
-  all_work (g ∷ gs) [] own among listed t es opened order long upto = absurd own
-  all_work (g ∷ gs) (l ∷ ks) own among listed t es opened order long upto =
-      let z = last_opening m t in
-      let before = opening_before m merged.lawful t in
-      let one = filter_budget g.0 g.1 l (among g.0 g.1 (inl refl)) own.0 z (t - z) es order long (omega (arith, upto, before)) in
-      let budget = budget_of_gate l (listed l (inl refl)) own.0.lawful t opened in
-      let own_work : share * recent_filter_work out.speed g.0 z (offers es) ≤ least * turn_limit (turn_by_time l t) = subst (λ (i : ℕ). share * recent_filter_work out.speed g.0 z (offers es) ≤ least * i) budget one in
-      let rest = all_work gs ks own.1 (λ n f i. among n f (inr i)) (λ k i. listed k (inr i)) t es opened order long upto in
-      let all = sum_parts share least (recent_filter_work out.speed g.0 z (offers es)) (recent_sharer_work out.speed gs z (offers es)) (turn_limit (turn_by_time l t)) (limit_sum ks t) own_work rest in
-      subst (λ (i : ℕ). share * (recent_filter_work out.speed g.0 z (offers es) + recent_sharer_work out.speed gs z (offers es)) ≤ least * i) (sym (limit_more l ks t)) all
-    where
-      sum_parts : (k one a b x y : ℕ) → k * a ≤ one * x → k * b ≤ one * y → k * (a + b) ≤ one * (x + y)
-      sum_parts k one a b x y h i = omega (arith, h, i)
-
-  -- OFFERS
-
-  abbrev KeepsIntervals : List Offer → Type 0
-  KeepsIntervals os = HaveIntervalOffers out (gate_opens m) (last_opening m) (opening_work m least share) os
-
-  -- While a frame passes, a gate is open.
-  opened_for : (a : Arrival) (es : List Event) (o : Offer) (os : List Offer) → AreArrivalsInOrder (Arrived a ∷ es) → HaveSdus share (Arrived a ∷ es) → offers (Arrived a ∷ es) ≡ o ∷ os → o.at ≡ a.at → gate_opens m a.at ≡ true
-  opened_for a es o os order long list moment =
-      let (n, f, i, flow) = sharing.offers_of p group sharers q c sdu out plan good at reached are_sharers (Arrived a ∷ es) o (subst (IsMember o) (sym list) (inl refl)) in
-      let (l, j, is) = list_of p sharers ls are n f i in
-      by_bool (gate_opens l a.at) (λ k. merged.opens a.at l j k)
+  -- While a filter's frame passes, the filter's gate is open.
+  pub own_gate_open : (a : Arrival) (es : List Event) (o : Offer) (os : List Offer) → AreArrivalsInOrder (Arrived a ∷ es) → HaveSdus share (Arrived a ∷ es) → offers (Arrived a ∷ es) ≡ o ∷ os → o.at ≡ a.at → (n : ℕ) (f : FilterPlan) (l : Cyclic GateEntry) → IsMember (n, f) sharers → o.item.flow ≡ Some n → IsGateList p f l → gate_opens l a.at ≡ true
+  own_gate_open a es o os order long list moment n f l i flow is = by_bool (gate_opens l a.at) (λ k. k)
       (λ k.
       let none = closed_limit (turn_by_time l a.at) k in
       let same : a.at + 0 ≡ a.at = omega arith in
@@ -151,59 +115,89 @@ module _ {A : Type 0} (p : Plan A) (group : ℕ) (sharers : List (ℕ × FilterP
       its_number : (x : Option ℕ) (n : ℕ) → x ≡ Some n → has_filter_number x n ≡ true
       its_number x n e = rw e (same_number n)
 
-  one_offer : (a : Arrival) (es : List Event) (o : Offer) (os : List Offer) → AreArrivalsInOrder (Arrived a ∷ es) → HaveSdus share (Arrived a ∷ es) → offers (Arrived a ∷ es) ≡ o ∷ os → o.at ≡ a.at → KeepsIntervals os → KeepsIntervals (o ∷ os)
-  one_offer a es o os order long list moment before =
-      let opened = opened_for a es o os order long list moment in
-      let z = last_opening m a.at in
-      let flows = work_by_flows out.speed sharers z (offers (Arrived a ∷ es)) (sharing.offers_of p group sharers q c sdu out plan good at reached are_sharers (Arrived a ∷ es)) in
-      let all = all_work sharers ls are (λ n f i. i) (λ l i. i) a.at (Arrived a ∷ es) opened order long (omega arith) in
-      let limit = merged.limit a.at in
-      let turn : turn_limit (turn_by_time m z) ≡ turn_limit (turn_by_time m a.at) = ap turn_limit (opened_turn m merged.lawful a.at opened) in
-      let more = mul-le-mul_left share flows in
-      let most : least * limit_sum ls a.at ≤ least * turn_limit (turn_by_time m z) = mul-le-mul_left least (omega (arith, limit, turn)) in
-      let used : share * recent_offer_work out.speed z (offers (Arrived a ∷ es)) ≤ least * turn_limit (turn_by_time m z) = omega (arith, more, all, most) in
-      let within : share * recent_offer_work out.speed z (o ∷ os) ≤ least * turn_limit (turn_by_time m z) = subst (λ (xs : List Offer). share * recent_offer_work out.speed z xs ≤ least * turn_limit (turn_by_time m z)) list used in
-      let some : 0 < share = omega (arith, some_share) in
-      let work : recent_offer_work out.speed z (o ∷ os) ≤ opening_work m least share z = (le-div_iff_mul-le some).1 (omega (arith, within)) in (
-        subst (λ (i : ℕ). gate_opens m i ≡ true) (sym moment) opened,
-        subst (λ (i : ℕ). recent_offer_work out.speed (last_opening m i) (o ∷ os) ≤ opening_work m least share (last_opening m i)) (sym moment) work,
-        before,
-      )
+  module _ (ls : List (Cyclic GateEntry)) (are : AreGateLists p sharers ls) (m : Cyclic GateEntry) (merged : IsMergedList ls m) where
+    -- From the latest opening, the budget of each gate is the limit of its interval.
+    budget_of_gate : (l : Cyclic GateEntry) → IsMember l ls → IsLawful l → (t : ℕ) → gate_opens m t ≡ true → octet_budget (turn_by_time l) (last_opening m t) (t - last_opening m t) ≡ turn_limit (turn_by_time l t)
+    budget_of_gate l i lawful t opened =
+        let z = last_opening m t in
+        let before = opening_before m merged.lawful t in
+        let (x, here) = cyclic_turn_exists l t lawful in
+        let back : z + (t - z) ≡ t = omega (arith, before) in
+        let none = none_ends (turn_by_time l) x z (t - z) (λ v from upto. merged.same t v l i opened from (omega (arith, upto, back)) ∙ here) in
+        let last : turn_by_time l (z + (t - z)) ≡ turn_by_time l t = ap (turn_by_time l) back in
+        rw (none, last) (omega arith)
 
-  arrived_keeps : (a : Arrival) (es : List Event) → AreArrivalsInOrder (Arrived a ∷ es) → HaveSdus share (Arrived a ∷ es) → KeepsIntervals (offers es) → KeepsIntervals (offers (Arrived a ∷ es))
-  arrived_keeps a es order long before = elim (one_by_way p out a es (frame_destination p a)) [
-    | inl none ↦ rw none before
-    | inr one ↦
-        let (o, same, moment) = one in
-        by_bool (nat_eq o.class c)
-        (λ k.
-        let list : offers (Arrived a ∷ es) ≡ o ∷ offers es = rw (same, k) refl in
-        subst KeepsIntervals (sym list) (one_offer a es o (offers es) order long list moment before))
-        (λ k.
-        let list : offers (Arrived a ∷ es) ≡ offers es = rw (same, k) refl in
-        subst KeepsIntervals (sym list) before)
-  ]
+    -- The work of filters since the latest opening is at most the sum of their gates' limits.
+    all_work : (gs : List (ℕ × FilterPlan)) (ks : List (Cyclic GateEntry)) → AreGateLists p gs ks → ((n : ℕ) (f : FilterPlan) → IsMember (n, f) gs → IsMember (n, f) sharers) → ((l : Cyclic GateEntry) → IsMember l ks → IsMember l ls) → (t : ℕ) (es : List Event) → gate_opens m t ≡ true → AreArrivalsInOrder es → HaveSdus share es → last_arrival_time es ≤ t → share * recent_sharer_work out.speed gs (last_opening m t) (offers es) ≤ least * limit_sum ks t
+    all_work [] ks own among listed t es opened order long upto = omega arith
+    all_work (g ∷ gs) [] own among listed t es opened order long upto = absurd own
+    all_work (g ∷ gs) (l ∷ ks) own among listed t es opened order long upto =
+        let z = last_opening m t in
+        let before = opening_before m merged.lawful t in
+        let one = filter_budget g.0 g.1 l (among g.0 g.1 (inl refl)) own.0 z (t - z) es order long (omega (arith, upto, before)) in
+        let budget = budget_of_gate l (listed l (inl refl)) own.0.lawful t opened in
+        let own_work : share * recent_filter_work out.speed g.0 z (offers es) ≤ least * turn_limit (turn_by_time l t) = subst (λ (i : ℕ). share * recent_filter_work out.speed g.0 z (offers es) ≤ least * i) budget one in
+        let rest = all_work gs ks own.1 (λ n f i. among n f (inr i)) (λ k i. listed k (inr i)) t es opened order long upto in
+        let all = sum_parts share least (recent_filter_work out.speed g.0 z (offers es)) (recent_sharer_work out.speed gs z (offers es)) (turn_limit (turn_by_time l t)) (limit_sum ks t) own_work rest in
+        subst (λ (i : ℕ). share * (recent_filter_work out.speed g.0 z (offers es) + recent_sharer_work out.speed gs z (offers es)) ≤ least * i) (sym (limit_more l ks t)) all
+      where
+        sum_parts : (k one a b x y : ℕ) → k * a ≤ one * x → k * b ≤ one * y → k * (a + b) ≤ one * (x + y)
+        sum_parts k one a b x y h i = omega (arith, h, i)
 
-  -- The offers of the class keep the intervals of the merged list.
-  offers_keep : (es : List Event) → AreArrivalsInOrder es → HaveSdus share es → KeepsIntervals (offers es)
-  offers_keep [] order long = tt
-  offers_keep (Cleared d k ∷ es) order long = offers_keep es order long
-  offers_keep (Arrived a ∷ es) order long = arrived_keeps a es order long (offers_keep es order.1 long.1)
+    -- OFFERS
 
-  module _ (es : List Event) (moments : ℕ → ℕ) (lists : ℕ → List (Copy CarriedFrame)) (run : IsRun p es moments lists) (whole : AreFinished lists) (order : AreArrivalsInOrder es) (long : HaveSdus share es) where
-    keeps : HasIntervalWork (egress_rules out) (gate_opens m) (last_opening m) (opening_work m least share) (class_copies c (lists q))
-    keeps =
-        let same : copy_offers (class_copies c (lists q)) ≡ offers es = members.offered_only c (lists q) ∙ ap (class_offers c) (run.offers q out at) in
-        copies_keep out (gate_opens m) (last_opening m) (opening_work m least share) (class_copies c (lists q)) (subst KeepsIntervals (sym same) (offers_keep es order long))
+    abbrev KeepsIntervals : List Offer → Type 0
+    KeepsIntervals os = HaveIntervalOffers out (gate_opens m) (last_opening m) (opening_work m least share) os
 
-    -- Each copy that starts leaves within the intervals' bound.
-    pub done_by_gates : (b s : ℕ) (x : Copy CarriedFrame) → IsIntervalBound (lists_open out.list c) (gate_opens m) (transmission_time (longest_frame sdu) out.speed) least (last_opening m) (opening_work m least share) b → IsMember x (lists q) → x.class ≡ c → x.fate ≡ Started s → s + transmission_time x.item.len out.speed ≤ x.at + b
-    done_by_gates b s x is i class started =
-        each_in_time (egress_rules out) (gate_opens m) (last_opening m) (opening_work m least share) c (transmission_time (longest_frame sdu) out.speed) least b s (moments q) x (class_copies c (lists q)) (openings_are_intervals m merged.lawful) is
-        (sharing.alone p group sharers q c sdu out plan good at reached are_sharers es moments lists run whole)
-        (only_order c (moments q) (lists q) (run.lawful q out at).offers)
-        (sharing.between p group sharers q c sdu out plan good at reached are_sharers es moments lists run whole)
-        keeps (in_only c x (lists q) i class) started
+    -- While a frame passes, a gate is open.
+    opened_for : (a : Arrival) (es : List Event) (o : Offer) (os : List Offer) → AreArrivalsInOrder (Arrived a ∷ es) → HaveSdus share (Arrived a ∷ es) → offers (Arrived a ∷ es) ≡ o ∷ os → o.at ≡ a.at → gate_opens m a.at ≡ true
+    opened_for a es o os order long list moment =
+        let (n, f, i, flow) = sharing.offers_of p group sharers q c sdu out plan good at reached are_sharers (Arrived a ∷ es) o (subst (IsMember o) (sym list) (inl refl)) in
+        let (l, j, is) = list_of p sharers ls are n f i in
+        merged.opens a.at l j (own_gate_open a es o os order long list moment n f l i flow is)
+
+    one_offer : (a : Arrival) (es : List Event) (o : Offer) (os : List Offer) → AreArrivalsInOrder (Arrived a ∷ es) → HaveSdus share (Arrived a ∷ es) → offers (Arrived a ∷ es) ≡ o ∷ os → o.at ≡ a.at → KeepsIntervals os → KeepsIntervals (o ∷ os)
+    one_offer a es o os order long list moment before =
+        let opened = opened_for a es o os order long list moment in
+        let z = last_opening m a.at in
+        let flows = work_by_flows out.speed sharers z (offers (Arrived a ∷ es)) (sharing.offers_of p group sharers q c sdu out plan good at reached are_sharers (Arrived a ∷ es)) in
+        let all = all_work sharers ls are (λ n f i. i) (λ l i. i) a.at (Arrived a ∷ es) opened order long (omega arith) in
+        let limit = merged.limit a.at in
+        let turn : turn_limit (turn_by_time m z) ≡ turn_limit (turn_by_time m a.at) = ap turn_limit (opened_turn m merged.lawful a.at opened) in
+        let more = mul-le-mul_left share flows in
+        let most : least * limit_sum ls a.at ≤ least * turn_limit (turn_by_time m z) = mul-le-mul_left least (omega (arith, limit, turn)) in
+        let used : share * recent_offer_work out.speed z (offers (Arrived a ∷ es)) ≤ least * turn_limit (turn_by_time m z) = omega (arith, more, all, most) in
+        let within : share * recent_offer_work out.speed z (o ∷ os) ≤ least * turn_limit (turn_by_time m z) = subst (λ (xs : List Offer). share * recent_offer_work out.speed z xs ≤ least * turn_limit (turn_by_time m z)) list used in
+        let some : 0 < share = omega (arith, some_share) in
+        let work : recent_offer_work out.speed z (o ∷ os) ≤ opening_work m least share z = (le-div_iff_mul-le some).1 (omega (arith, within)) in (
+          subst (λ (i : ℕ). gate_opens m i ≡ true) (sym moment) opened,
+          subst (λ (i : ℕ). recent_offer_work out.speed (last_opening m i) (o ∷ os) ≤ opening_work m least share (last_opening m i)) (sym moment) work,
+          before,
+        )
+
+    -- The offers of the class keep the intervals of the merged list.
+    keep_intervals : (es : List Event) → AreArrivalsInOrder es → HaveSdus share es → KeepsIntervals (offers es)
+    keep_intervals es order long =
+        offers_keep p out c (λ (ds : List Event). AreArrivalsInOrder ds × HaveSdus share ds) KeepsIntervals tt
+        (λ a ds fine. (fine.0.1, fine.1.1))
+        (λ d k ds fine. fine)
+        (λ a ds o fine list moment before. one_offer a ds o (offers ds) fine.0 fine.1 list moment before)
+        es (order, long)
+
+    module _ (es : List Event) (moments : ℕ → ℕ) (lists : ℕ → List (Copy CarriedFrame)) (run : IsRun p es moments lists) (whole : AreFinished lists) (order : AreArrivalsInOrder es) (long : HaveSdus share es) where
+      keeps : HasIntervalWork (egress_rules out) (gate_opens m) (last_opening m) (opening_work m least share) (class_copies c (lists q))
+      keeps =
+          let same : copy_offers (class_copies c (lists q)) ≡ offers es = members.offered_only c (lists q) ∙ ap (class_offers c) (run.offers q out at) in
+          copies_keep out (gate_opens m) (last_opening m) (opening_work m least share) (class_copies c (lists q)) (subst KeepsIntervals (sym same) (keep_intervals es order long))
+
+      -- Each copy that starts leaves within the intervals' bound.
+      pub done_by_gates : (b s : ℕ) (x : Copy CarriedFrame) → IsIntervalBound (lists_open out.list c) (gate_opens m) (transmission_time (longest_frame sdu) out.speed) least (last_opening m) (opening_work m least share) b → IsMember x (lists q) → x.class ≡ c → x.fate ≡ Started s → s + transmission_time x.item.len out.speed ≤ x.at + b
+      done_by_gates b s x is i class started =
+          each_in_time (egress_rules out) (gate_opens m) (last_opening m) (opening_work m least share) c (transmission_time (longest_frame sdu) out.speed) least b s (moments q) x (class_copies c (lists q)) (openings_are_intervals m merged.lawful) is
+          (sharing.alone p group sharers q c sdu out plan good at reached are_sharers es moments lists run whole)
+          (only_order c (moments q) (lists q) (run.lawful q out at).offers)
+          (sharing.between p group sharers q c sdu out plan good at reached are_sharers es moments lists run whole)
+          keeps (in_only c x (lists q) i class) started
 
 -- Each copy that starts leaves a shared queue within its bound by the gates.
 pub left_by_gates : {A : Type 0} (p : Plan A) (s : SharedQueue) (is : IsSharedQueue p s) (share b : ℕ) → IsGatesBound p is.out (queue_sharers p s.group s.port s.class p.filters) s.class share b → IsPlan p → HasAcceptableGroups p → (es : List Event) (moments : ℕ → ℕ) (lists : ℕ → List (Copy CarriedFrame)) → IsRun p es moments lists → AreFinished lists → AreArrivalsInOrder es → HaveSdus share es → (start : ℕ) (x : Copy CarriedFrame) → IsMember x (lists s.port) → x.class ≡ s.class → x.fate ≡ Started start → start + transmission_time x.item.len is.out.speed ≤ x.at + b

@@ -19,6 +19,11 @@ pub mod Admitting
 pub mod GateRuns
 pub mod MergedGates
 pub mod GroupGates
+pub mod OneOffers
+pub mod OfferLists
+pub mod PartOffers
+pub mod ApartGates
+pub mod ApartMembers
 pub mod NthFits
 pub mod Chain
 pub mod MeterAllowance

@@ -77,6 +77,16 @@ offset_of cycle t some =
 multiple_of : (cycle k : ℕ) → nat_eq (cycle % k) 0 ≡ true → cycle ≡ (cycle / k) * k
 multiple_of cycle k h = let parts = div-add-mod' cycle k in let none = eqb-true (cycle % k) 0 h in omega (arith, parts, none)
 
+-- After whole common cycles, each list has the same interval, later by these cycles.
+pub moved_by_common : (ls : List (Cyclic GateEntry)) (laws : (l : Cyclic GateEntry) → IsMember l ls → IsLawful l) (cycle : ℕ) (common : list_all (λ (l : Cyclic GateEntry). nat_eq (cycle % l.cycle) 0) ls ≡ true) (l : Cyclic GateEntry) → IsMember l ls → (n t : ℕ) → IsMovedTurn (turn_by_time l t) (turn_by_time l (t + n * cycle)) (n * cycle)
+moved_by_common ls laws cycle common l i n t =
+    let times : cycle ≡ (cycle / l.cycle) * l.cycle = multiple_of cycle l.cycle (each_passes (λ (k : Cyclic GateEntry). nat_eq (cycle % k.cycle) 0) ls l common i) in
+    let by : (n * (cycle / l.cycle)) * l.cycle ≡ n * cycle = by_times n (cycle / l.cycle) l.cycle cycle times in
+    subst (λ (d : ℕ). IsMovedTurn (turn_by_time l t) (turn_by_time l (t + d)) d) by (moved l (laws l i) (n * (cycle / l.cycle)) t)
+  where
+    by_times : (n q k c : ℕ) → c ≡ q * k → (n * q) * k ≡ n * c
+    by_times n q k c e = subst (λ (i : ℕ). (n * q) * k ≡ n * i) (sym e) (grind arith)
+
 -- The sum of limits with one more gate.
 pub limit_more : (l : Cyclic GateEntry) (ls : List (Cyclic GateEntry)) (t : ℕ) → limit_sum (l ∷ ls) t ≡ turn_limit (turn_by_time l t) + limit_sum ls t
 limit_more l ls t = sum_by-cons (λ (k : Cyclic GateEntry). turn_limit (turn_by_time k t)) l ls
@@ -120,13 +130,7 @@ module _ (ls : List (Cyclic GateEntry)) (laws : (l : Cyclic GateEntry) → IsMem
     start_upto = let low = a.is.starts in let time = a.time in omega (arith, low, time)
 
     moved_turn : (l : Cyclic GateEntry) → IsMember l ls → IsMovedTurn (turn_by_time l a.x.start) (turn_by_time l start) (a.n * cycle)
-    moved_turn l i =
-        let times : cycle ≡ (cycle / l.cycle) * l.cycle = multiple_of cycle l.cycle (each_passes (λ (k : Cyclic GateEntry). nat_eq (cycle % k.cycle) 0) ls l common i) in
-        let by : (a.n * (cycle / l.cycle)) * l.cycle ≡ a.n * cycle = by_times a.n (cycle / l.cycle) l.cycle cycle times in
-        subst (λ (d : ℕ). IsMovedTurn (turn_by_time l a.x.start) (turn_by_time l (a.x.start + d)) d) by (moved l (laws l i) (a.n * (cycle / l.cycle)) a.x.start)
-      where
-        by_times : (n q k c : ℕ) → c ≡ q * k → (n * q) * k ≡ n * c
-        by_times n q k c e = subst (λ (i : ℕ). (n * q) * k ≡ n * i) (sym e) (grind arith)
+    moved_turn l i = moved_by_common ls laws cycle common l i a.n a.x.start
 
     -- From the interval's start to the time, each gate stays in one interval.
     stays : (l : Cyclic GateEntry) → IsMember l ls → (u : ℕ) → start ≤ u → u ≤ t → turn_by_time l u ≡ turn_by_time l start

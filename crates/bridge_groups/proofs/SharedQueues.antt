@@ -137,6 +137,28 @@ module _ {A : Type 0} (p : Plan A) (group q c : ℕ) (plan : IsPlan p) (good : H
           let own = each f (inl refl) in
           by_bool (is_sharer p group q c f.1) (λ k. rw k (omega (arith, own, rest))) (λ k. rw k rest)
 
+  -- A list equal to the sharers, with its longest SDU.
+  module _ (read : Plan A) (found seen : List (ℕ × FilterPlan)) (is : read ≡ p) (are : found ≡ queue_sharers read group q c read.filters) (same : seen ≡ found) where
+    pub seen_sharers : seen ≡ own_sharers
+    seen_sharers = same ∙ (are ∙ ap (λ (z : Plan A). queue_sharers z group q c z.filters) is)
+
+    pub seen_few : length seen ≤ 1024
+    seen_few =
+        let few = few_sharers p group q c p.filters in
+        let all = plan.few_filters in
+        let equal = ap length seen_sharers in
+        omega (arith, few, all, equal)
+
+    module _ (sdu : ℕ) (longest : sdu ≡ longest_sdu seen) where
+      pub seen_longest : sdu ≡ longest_sdu own_sharers
+      seen_longest = longest ∙ ap longest_sdu seen_sharers
+
+      pub seen_small : sdu ≤ 65535
+      seen_small = let e = seen_longest in let small = sharers_small in omega (arith, e, small)
+
+      pub seen_fits : (out : PortPlan A) → find_port p.ports q ≡ Some out → IsGroupQueue p group q c → lists_can_fit out.list c (transmission_time (longest_frame sdu) out.speed) ≡ true
+      seen_fits out at reached = subst (λ (s : ℕ). lists_can_fit out.list c (transmission_time (longest_frame s) out.speed) ≡ true) (sym seen_longest) (sharers_fit out at reached)
+
 -- CAPACITIES
 
 -- A greater capacity suffices too.

@@ -43,6 +43,7 @@ use Rattle.bridge_groups.specs.Curves.{AreArrivalsInOrder, HaveMeters, AreSharer
 use Rattle.bridge_check.specs.Acceptable.{HasAcceptableGroups}
 use Rattle.bridge_semantics.specs.Groups.{IsGroupQueue, group_events}
 use Rattle.bridge_groups.proofs.Shares as shares
+use Rattle.bridge_groups.proofs.OfferLists.{offers_keep}
 use Rattle.bridge_groups.proofs.Sums.{AreSharerOffers, HaveOfferCurves, copies_count, copies_keep, count_allowed, least_occupied, work_allowed}
 use Rattle.bridge_semantics.proofs.GroupMembers as members
 use Rattle.bridge_semantics.proofs.Grouped as group_of
@@ -92,32 +93,6 @@ only_order c h [] o = tt
 only_order c h (x ∷ xs) o = by_bool (nat_eq x.class c)
     (λ k. rw k (o.0, only_order c x.at xs o.1))
     (λ k. rw k (offered_later x.at h (class_copies c xs) o.0 (only_order c x.at xs o.1)))
-
--- A FRAME OFFERS ONE COPY OR NONE
-
-abbrev IsOneOffer : ℕ → List Offer → Type 0
-IsOneOffer at os = (os ≡ []) ⊎ ((o : Offer) × (os ≡ o ∷ []) × (o.at ≡ at))
-
-one_by_verdict : {A : Type 0} (out : PortPlan A) (a : Arrival) (priority n own : ℕ) (v : Verdict) → IsOneOffer a.at (verdict_offer out a priority n own v)
-one_by_verdict out a priority n own (verdict.Pass ipv e) = inr (_, refl, refl)
-one_by_verdict out a priority n own verdict.Blocked = inl refl
-one_by_verdict out a priority n own verdict.Oversize = inl refl
-one_by_verdict out a priority n own verdict.GateClosed = inl refl
-one_by_verdict out a priority n own verdict.ShutByRx = inl refl
-one_by_verdict out a priority n own verdict.ShutByOctets = inl refl
-one_by_verdict out a priority n own verdict.OctetsExceeded = inl refl
-one_by_verdict out a priority n own verdict.Red = inl refl
-one_by_verdict out a priority n own verdict.YellowDropped = inl refl
-
-one_by_step : {A : Type 0} (p : Plan A) (out : PortPlan A) (a : Arrival) (es : List Event) (priority : ℕ) (s : FilterStep) → IsOneOffer a.at (step_offer p out a es priority s)
-one_by_step p out a es priority (Unfiltered c) = inr (_, refl, refl)
-one_by_step p out a es priority (Judged c n f v) = one_by_verdict out a priority n _ v
-one_by_step p out a es priority (Commanded c n) = inl refl
-
-pub one_by_way : {A : Type 0} (p : Plan A) (out : PortPlan A) (a : Arrival) (es : List Event) (w : Destination) → IsOneOffer a.at (destination_offer p out a es w)
-one_by_way p out a es way.Malformed = inl refl
-one_by_way p out a es way.Nowhere = inl refl
-one_by_way p out a es (way.Forwarded set c) = by_bool (has_port set out.number) (λ k. rw k (one_by_step p out a es c.priority (frame_step p es c))) (λ k. rw k (inl refl))
 
 -- THE CURVE OF A QUEUE
 
@@ -169,25 +144,17 @@ module _ {A : Type 0} (p : Plan A) (group : ℕ) (sharers : List (ℕ × FilterP
 
   module _ (Fine : List Event → Type 0) (behind : (a : Arrival) (es : List Event) → Fine (Arrived a ∷ es) → Fine es) (uncommanded : (d : Clear) (k : ℕ) (es : List Event) → Fine (Cleared d k ∷ es) → Fine es) (curve many : ℕ → ℕ)
       (keep : (u w : ℕ) (es : List Event) → AreArrivalsInOrder es → Fine es → last_arrival_time es ≤ u + w → (recent_offer_work out.speed u (class_offers c (port_offers p out es)) ≤ curve w) × (count_recent_offers u (class_offers c (port_offers p out es)) ≤ many w)) where
-    arrived_keep : (a : Arrival) (es : List Event) → AreArrivalsInOrder (Arrived a ∷ es) → Fine (Arrived a ∷ es) → HaveOfferCurves out.speed curve many (class_offers c (port_offers p out es)) → HaveOfferCurves out.speed curve many (class_offers c (port_offers p out (Arrived a ∷ es)))
-    arrived_keep a es order ok before = elim (one_by_way p out a es (frame_destination p a)) [
-      | inl none ↦ rw none before
-      | inr one ↦
-          let (o, same, moment) = one in
-          by_bool (nat_eq o.class c)
-          (λ k.
-          let list : class_offers c (port_offers p out (Arrived a ∷ es)) ≡ o ∷ class_offers c (port_offers p out es) = rw (same, k) refl in
-          subst (HaveOfferCurves out.speed curve many) (sym list)
-          ((λ u w from. subst (λ (os : List Offer). (recent_offer_work out.speed u os ≤ curve w) × (count_recent_offers u os ≤ many w)) list (keep u w (Arrived a ∷ es) order ok (omega (arith, from, moment)))), before))
-          (λ k.
-          let list : class_offers c (port_offers p out (Arrived a ∷ es)) ≡ class_offers c (port_offers p out es) = rw (same, k) refl in
-          subst (HaveOfferCurves out.speed curve many) (sym list) before)
-    ]
+    abbrev HaveCurves : List Offer → Type 0
+    HaveCurves os = HaveOfferCurves out.speed curve many os
 
-    offers_keep : (es : List Event) → AreArrivalsInOrder es → Fine es → HaveOfferCurves out.speed curve many (class_offers c (port_offers p out es))
-    offers_keep [] order ok = tt
-    offers_keep (Cleared d k ∷ es) order ok = offers_keep es order (uncommanded d k es ok)
-    offers_keep (Arrived a ∷ es) order ok = arrived_keep a es order ok (offers_keep es order.1 (behind a es ok))
+    keeps_curves : (es : List Event) → AreArrivalsInOrder es → Fine es → HaveCurves (class_offers c (port_offers p out es))
+    keeps_curves es order ok =
+        offers_keep p out c (λ (ds : List Event). AreArrivalsInOrder ds × Fine ds) HaveCurves tt
+        (λ a ds fine. (fine.0.1, behind a ds fine.1))
+        (λ d k ds fine. (fine.0, uncommanded d k ds fine.1))
+        (λ a ds o fine list moment before.
+        ((λ u w from. subst (λ (os : List Offer). (recent_offer_work out.speed u os ≤ curve w) × (count_recent_offers u os ≤ many w)) list (keep u w (Arrived a ∷ ds) fine.0 fine.1 (omega (arith, from, moment)))), before))
+        es (order, ok)
 
     -- A RUN
 
@@ -196,12 +163,12 @@ module _ {A : Type 0} (p : Plan A) (group : ℕ) (sharers : List (ℕ × FilterP
       pub queue_keeps : HasWorkCurve (egress_rules out) curve (class_copies c (lists q))
       queue_keeps =
           let same : copy_offers (class_copies c (lists q)) ≡ class_offers c (port_offers p out es) = members.offered_only c (lists q) ∙ ap (class_offers c) (run.offers q out at) in
-          copies_keep out curve many (class_copies c (lists q)) (subst (HaveOfferCurves out.speed curve many) (sym same) (offers_keep es order ok))
+          copies_keep out curve many (class_copies c (lists q)) (subst (HaveOfferCurves out.speed curve many) (sym same) (keeps_curves es order ok))
 
       pub queue_counts : HasCountCurve many (class_copies c (lists q))
       queue_counts =
           let same : copy_offers (class_copies c (lists q)) ≡ class_offers c (port_offers p out es) = members.offered_only c (lists q) ∙ ap (class_offers c) (run.offers q out at) in
-          copies_count out.speed curve many (class_copies c (lists q)) (subst (HaveOfferCurves out.speed curve many) (sym same) (offers_keep es order ok))
+          copies_count out.speed curve many (class_copies c (lists q)) (subst (HaveOfferCurves out.speed curve many) (sym same) (keeps_curves es order ok))
 
       -- Each copy that starts leaves within the delay bound.
       pub done_in_time : (b s : ℕ) (x : Copy CarriedFrame) → IsDelayBound (lists_open out.list c) (transmission_time (longest_frame sdu) out.speed) (transmission_time 60 out.speed) curve b → IsMember x (lists q) → x.class ≡ c → x.fate ≡ Started s → s + transmission_time x.item.len out.speed ≤ x.at + b

@@ -95,7 +95,7 @@ pub last_frame_sent : last_send_time sent ≡ 1500
 last_frame_sent = refl
 
 -- A stream gate that opens from 1 to 4 ns of each 10 ns, with 88 octets an opening.
-abbrev short_openings : Cyclic GateEntry
+abbrev pub short_openings : Cyclic GateEntry
 short_openings = record { base = 1; cycle = 10; entries = (record { lets = true; ipv = None; octets = Some 88 }, 3) ∷ (record { lets = false; ipv = None; octets = None }, 7) ∷ [] }
 
 pub open_at_its_base : gate_opens short_openings 1 ≡ true
@@ -116,10 +116,10 @@ pub work_of_two_frames : opening_work short_openings 672 44 11 ≡ 1344
 work_of_two_frames = refl
 
 -- A second stream gate that opens from 3 to 6 ns, with 44 octets an opening.
-abbrev later_openings : Cyclic GateEntry
+abbrev pub later_openings : Cyclic GateEntry
 later_openings = record { base = 3; cycle = 10; entries = (record { lets = true; ipv = None; octets = Some 44 }, 3) ∷ (record { lets = false; ipv = None; octets = None }, 7) ∷ [] }
 
-abbrev both_gates : List (Cyclic GateEntry)
+abbrev pub both_gates : List (Cyclic GateEntry)
 both_gates = short_openings ∷ later_openings ∷ []
 
 -- At 3 ns both gates are open, so both limits count.

@@ -8,6 +8,8 @@ pub mod QueueBounds
 pub mod Sharers
 pub mod SharedQueues
 pub mod MergedGates
+pub mod ApartGates
+pub mod ApartMembers
 pub mod GroupRows
 pub mod Admission
 pub mod Examples

@@ -16,6 +16,7 @@ use Rattle.bridge_bounds.specs.Bounds.{IsRoomBound}
 use Rattle.bridge_groups.specs.Work.{IsDelayBound, IsSufficientRoom}
 use Rattle.bridge_groups.specs.CostCurves.{HasLongStarts, sharers_cost_curve}
 use Rattle.bridge_groups.specs.Curves.{sharers_curve, sharers_frame_limit}
+use Rattle.bridge_groups.specs.ApartGates.{AreGatesApart}
 use Rattle.bridge_groups.specs.MergedGates.{IsGatesBound}
 use Rattle.bridge_groups.specs.Sharers.{are_metered, longest_sdu, queue_sharers}
 use Rattle.bridge_groups.specs.declared.shared_queues.SharedQueue.{SharedQueue}
@@ -69,8 +70,19 @@ pub record IsSharedRoom {A : Type 0} (p : Plan A) (out : PortPlan A) (sharers : 
   pub metered : are_metered sharers ≡ true
   pub sufficient : IsSufficientRoom (lists_open out.list c) (transmission_time (longest_frame (longest_sdu sharers)) out.speed) (transmission_time 60 out.speed) (sharers_curve p sharers out.speed) (sharers_frame_limit p sharers) room
 
+-- The lesser of a bound and an optional bound.
+abbrev pub lesser_bound : ℕ → Option ℕ → ℕ
+lesser_bound b None = b
+lesser_bound b (Some g) = min b g
+
+-- The least delay bound in ns of a shared queue for any capture: by meters, costs, capacity or stream gates.
+abbrev pub least_shared_bound : SharedQueue → ℕ
+least_shared_bound s = lesser_bound s.bound s.by_gates
+
 -- Holds if row `s` describes a shared queue: delay bound, capacity, and a sufficient capacity if one is known. If `s.is_metered` is true,
 -- the meters give a bound. Further bounds follow from the stream gates.
+--
+-- If `s.is_apart` is true, the stream gates are apart in time by the least bound.
 pub record IsSharedQueue {A : Type 0} (p : Plan A) (s : SharedQueue) : Type 0 where
   pub out : PortPlan A
   pub at : find_port p.ports s.port ≡ Some out
@@ -81,6 +93,7 @@ pub record IsSharedQueue {A : Type 0} (p : Plan A) (s : SharedQueue) : Type 0 wh
   pub capacity : s.capacity ≡ (egress_rules out).room s.class
   pub by_gates : IfSome s.by_gates (IsGatesBound p out (queue_sharers p s.group s.port s.class p.filters) s.class 2)
   pub padded : IfSome s.padded (IsGatesBound p out (queue_sharers p s.group s.port s.class p.filters) s.class 44)
+  pub apart : s.is_apart ≡ true → AreGatesApart p (queue_sharers p s.group s.port s.class p.filters) (least_shared_bound s)
 
 -- Holds if row `s` describes the queue of class `c` at port `q`, which the group shares.
 pub record IsRowOf {A : Type 0} (p : Plan A) (group q c : ℕ) (s : SharedQueue) : Type 0 where
@@ -89,19 +102,10 @@ pub record IsRowOf {A : Type 0} (p : Plan A) (group q c : ℕ) (s : SharedQueue)
   pub port_is : s.port ≡ q
   pub class_is : s.class ≡ c
 
--- The lesser of a bound and an optional bound.
-abbrev pub lesser_bound : ℕ → Option ℕ → ℕ
-lesser_bound b None = b
-lesser_bound b (Some g) = min b g
-
 -- The optional bound if it is less than `b`, otherwise `None`.
 abbrev pub bound_below : ℕ → Option ℕ → Option ℕ
 bound_below b None = None
 bound_below b (Some g) = if nat_lt g b then Some g else None
-
--- The least delay bound in ns of a shared queue for any capture: by meters, costs, capacity or stream gates.
-abbrev pub least_shared_bound : SharedQueue → ℕ
-least_shared_bound s = lesser_bound s.bound s.by_gates
 
 -- The delay bound in ns of a shared queue for frames of at least 60 octets, if it is less than `least_shared_bound`.
 abbrev pub padded_shared_bound : SharedQueue → Option ℕ

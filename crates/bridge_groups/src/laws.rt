@@ -1,5 +1,5 @@
 //! Laws of groups of filters that share queues. Each law is the contract of a function that does nothing.
-ghost use Rattle.std.specs.Prelude.{◌≡◌, ◌≢◌, ◌≤◌, ◌+◌, ◌-◌, ◌*◌, ◌<◌, ◌/◌, ◌∷◌, ◌++◌, ℕ, List, None, Some, true};
+ghost use Rattle.std.specs.Prelude.{◌≡◌, ◌≢◌, ◌≤◌, ◌+◌, ◌-◌, ◌*◌, ◌<◌, ◌/◌, ◌∷◌, ◌++◌, ℕ, List, None, Some, nat_eq, true};
 ghost use Rattle.bridge_limits.specs.Members.{IsMember};
 ghost use Rattle.bridge_forward.specs.Ports.{has_port};
 ghost use Rattle.bridge_filter.specs.declared.FilterInput.{FilterInput};
@@ -17,13 +17,17 @@ ghost use Rattle.bridge_check.specs.Acceptable.{HasAcceptableGroups};
 ghost use Rattle.bridge_check.specs.Reach.{reaches_queue};
 ghost use Rattle.bridge_check.specs.Windows.{longest_frame};
 ghost use Rattle.bridge_semantics.specs.declared.destination.Destination.TheVariants.{Forwarded};
-ghost use Rattle.bridge_semantics.specs.Events.{Arrival, Arrived, Event, count_filter_frames, frame_destination, metered_octets, plan_police, police_steps};
+ghost use Rattle.bridge_semantics.specs.Events.{Arrival, Arrived, Event, count_filter_frames, frame_destination, metered_octets, own_events, plan_police, police_steps};
 ghost use Rattle.std.specs.List.{list_all};
+ghost use Rattle.std.specs.Map.{lookup};
+ghost use Rattle.bridge_semantics.specs.declared.outcome.Outcome.{Outcome};
+ghost use Rattle.bridge_semantics.specs.declared.outcome.View.{View};
+ghost use Rattle.bridge_groups.specs.ApartMembers.{IsApartMember};
 ghost use Rattle.bridge_filter.specs.Counts.{filter_verdicts};
 ghost use Rattle.bridge_bounds.specs.Passing.{passes};
 ghost use Rattle.bridge_semantics.specs.Offers.{CarriedFrame, egress_rules};
 ghost use Rattle.bridge_semantics.specs.Groups.{IsGroupMember, IsGroupQueue};
-ghost use Rattle.bridge_semantics.specs.Runs.{AreFinished, IsRun};
+ghost use Rattle.bridge_semantics.specs.Runs.{AreFinished, AreSameViews, IsOutcome, IsRun, IsSoloView};
 ghost use Rattle.bridge_bounds.specs.Bounds.{IsLongestTime};
 ghost use Rattle.bridge_bounds.specs.GateFrames.{AreWithinLengths};
 ghost use Rattle.bridge_groups.specs.Work.{IsDelayBound, HasCountCurve, HasWorkCurve};
@@ -470,4 +474,42 @@ pub fn shared_queue_leaves_in_time_by_gates<A: Allocator + Copy>()
         → x.class ≡ s.class
         → x.fate ≡ Started start
         → start + transmission_time x.item.len is.out.speed ≤ x.at + b }
+{}
+
+/// The record of a filter whose queues' stream gates are apart in time equals its record on an idle bridge. There, only its own events
+/// arrive, and queues have their ports to themselves.
+///
+/// Neither outsiders nor other members of its group change anything of it. This is the isolation theorem for scheduled streams of one class
+/// (docs/ISOLATION.md).
+pub fn apart_member_is_isolated<A: Allocator + Copy>()
+    ensures { (p : Plan A) (group n : ℕ) (f : FilterPlan) (es : List Event) (lists : ℕ → List (Copy CarriedFrame))
+        (o : Outcome A) (v : View A)
+        → IsPlan p
+        → HasAcceptableGroups p
+        → IsApartMember p group n f
+        → AreArrivalsInOrder es
+        → HaveSdus 2 es
+        → IsOutcome p es lists o
+        → lookup (nat_eq n) o.filters.items ≡ Some v
+        → IsSoloView p n f (own_events p n f es) v }
+{}
+
+/// If two runs have equal own events of a filter whose queues' stream gates are apart in time, its records are equal. Other filters of its
+/// group can't change them. docs/ISOLATION.md cites it.
+pub fn members_change_nothing<A: Allocator + Copy>()
+    ensures { (p : Plan A) (group n : ℕ) (f : FilterPlan) (es others : List Event)
+        (lists more : ℕ → List (Copy CarriedFrame)) (o q : Outcome A) (u v : View A)
+        → IsPlan p
+        → HasAcceptableGroups p
+        → IsApartMember p group n f
+        → own_events p n f es ≡ own_events p n f others
+        → AreArrivalsInOrder es
+        → AreArrivalsInOrder others
+        → HaveSdus 2 es
+        → HaveSdus 2 others
+        → IsOutcome p es lists o
+        → IsOutcome p others more q
+        → lookup (nat_eq n) o.filters.items ≡ Some u
+        → lookup (nat_eq n) q.filters.items ≡ Some v
+        → AreSameViews u v }
 {}

@@ -5,6 +5,7 @@ ghost use Rattle.bridge_groups.specs.GateBounds.{IsLeastBound, IsPaddedBound};
 ghost use Rattle.bridge_groups.specs.SharedQueues as shared;
 
 use crate::gate_bounds::{CAPTURED_SDU, PADDED_SDU, gate_work_bound};
+use crate::group_gates::lesser_bound;
 use crate::shared_queues::SharedQueue;
 use bridge_bounds::{is_coarse, tight_queue_bound};
 use bridge_check::Accepted;
@@ -96,10 +97,7 @@ pub fn least_queue_bound<A: Allocator + Copy>(
 pub fn least_shared_bound(row: &SharedQueue) -> u64
     ensures { result ≡ shared.least_shared_bound row.now }
 {
-    match row.by_gates {
-        Some(gates) => row.bound.min(gates),
-        None => row.bound,
-    }
+    lesser_bound(row.bound, row.by_gates)
 }
 
 /// Returns the delay bound in ns of a shared queue for frames of at least 60 octets, if it is less than `least_shared_bound`. `bounds`

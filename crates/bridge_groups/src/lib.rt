@@ -7,6 +7,7 @@
 //! ns, are a run of fits.
 
 mod admission;
+mod apart_gates;
 mod cost_search;
 mod count_curves;
 mod delay_bound;

@@ -54,6 +54,8 @@ pub struct SharedQueue {
     pub by_gates: Option<u64>,
     /// Delay bound in ns by the stream gates, for frames of at least 60 octets; `None` if none is known.
     pub padded: Option<u64>,
+    /// Whether the stream gates of the filters are apart in time: whenever one was open, each other gate stays closed for the least bound.
+    pub is_apart: bool,
 }
 
 /// Returns the curve that allows in any `w` ns the work that `curve` allows in `w` + `shift` ns. Returns `None` if its burst is above
@@ -290,18 +292,20 @@ pub fn shared_queue<A: Allocator + Copy>(
     let Ok(figures) = meter_figures(alloc, plan, &sharers, port, class, sdu) else {
         return Err(NoMemory);
     };
-    let Ok(gates) = gate_figures(alloc, plan, &sharers, port, class, sdu) else {
+    let bound = least_bound(figures.bound, figures.cost, by_room);
+    let Ok(gates) = gate_figures(alloc, plan, &sharers, port, class, sdu, bound) else {
         return Err(NoMemory);
     };
     Ok(SharedQueue {
         group,
         port: port.number,
         class,
-        bound: least_bound(figures.bound, figures.cost, by_room),
+        bound,
         is_metered: figures.bound.is_some(),
         room: figures.room,
         capacity: port.rooms[class as usize],
         by_gates: gates.captured,
         padded: gates.padded,
+        is_apart: gates.is_apart,
     })
 }

@@ -1,5 +1,5 @@
 -- Lines of `bounds` about the queues that groups share.
-use Rattle.std.specs.Prelude.{ℕ, Bool, true, List, [], ◌++◌, Option, Some, None, flat_map, codes, decimal, nat_lt, if◌then◌else◌}
+use Rattle.std.specs.Prelude.{ℕ, Bool, true, false, List, [], ◌++◌, Option, Some, None, flat_map, codes, decimal, nat_lt, if◌then◌else◌}
 use Rattle.bridge_groups.specs.declared.shared_queues.SharedQueue.{SharedQueue}
 use Rattle.bridge_groups.specs.SharedQueues.{is_bounded_by_gates, least_shared_bound, padded_shared_bound}
 
@@ -23,9 +23,14 @@ abbrev pub room_words : Option ℕ → ℕ → List ℕ
 room_words None capacity = codes " room none of " ++ decimal capacity
 room_words (Some room) capacity = codes " room " ++ (decimal room ++ (codes " of " ++ decimal capacity))
 
--- The line of `bounds` about shared queue `s`: group, port, class, mark, delay bound in ns, and capacities.
+-- The word ` apart` if the stream gates of the queue's filters are apart in time, otherwise nothing.
+abbrev pub apart_word : Bool → List ℕ
+apart_word true = codes " apart"
+apart_word false = []
+
+-- The line of `bounds` about shared queue `s`: group, port, class, mark, delay bound in ns, capacities, and `apart`.
 unfoldable pub shared_line : SharedQueue → List ℕ
-shared_line s = codes "group " ++ (decimal s.group ++ (codes " port " ++ (decimal s.port ++ (codes " class " ++ (decimal s.class ++ (shared_mark s ++ (codes " bound " ++ (decimal (least_shared_bound s) ++ (padded_words (padded_shared_bound s) ++ (room_words s.room s.capacity ++ codes "\n"))))))))))
+shared_line s = codes "group " ++ (decimal s.group ++ (codes " port " ++ (decimal s.port ++ (codes " class " ++ (decimal s.class ++ (shared_mark s ++ (codes " bound " ++ (decimal (least_shared_bound s) ++ (padded_words (padded_shared_bound s) ++ (room_words s.room s.capacity ++ (apart_word s.is_apart ++ codes "\n")))))))))))
 
 -- The lines of `bounds`, one for each shared queue, in order.
 abbrev pub shared_text : List SharedQueue → List ℕ

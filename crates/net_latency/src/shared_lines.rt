@@ -1,6 +1,6 @@
 //! Lines of `bounds` about the queues that groups share.
 ghost use Rattle.std.specs.Prelude.{◌≡◌, ◌++◌, OnOk, string_bytes};
-ghost use Rattle.net_latency.specs.SharedLines.{is_lossy, padded_words, room_words, shared_line, shared_mark, shared_text};
+ghost use Rattle.net_latency.specs.SharedLines.{apart_word, is_lossy, padded_words, room_words, shared_line, shared_mark, shared_text};
 
 use bridge_groups::{SharedQueue, is_bounded_by_gates, least_shared_bound, padded_shared_bound};
 use bridge_limits::NoMemory;
@@ -64,6 +64,14 @@ fn push_padded<A: Allocator + Copy>(
     }
 }
 
+/// Returns the last word of a shared queue's line, with a blank before it: ` apart` if the stream gates of its filters are apart in time,
+/// otherwise nothing. `push_shared_line` calls it.
+fn apart_word(is_apart: bool) -> &'static str
+    ensures { result.now ≡ apart_word is_apart }
+{
+    if is_apart { " apart" } else { "" }
+}
+
 /// Appends the line of a shared queue, such as `group 1 port 3 class 6 bound 348665 room 134 of 256`. `push_shared_text` calls it.
 #[tactic(auto, unfolding(crate::specs::SharedLines::shared_line))]
 fn push_shared_line<A: Allocator + Copy>(
@@ -78,6 +86,7 @@ fn push_shared_line<A: Allocator + Copy>(
         class,
         room,
         capacity,
+        is_apart,
         ..
     } = *row;
     let mark = shared_mark(row);
@@ -88,7 +97,8 @@ fn push_shared_line<A: Allocator + Copy>(
     )?;
     push_padded(text, padded_shared_bound(row))?;
     push_room(text, room, capacity)?;
-    text.push_str("\n")
+    let apart = apart_word(is_apart);
+    write!(text, "{apart}\n")
 }
 
 /// Appends one line for each shared queue, in the order of `rows`. `bound_lines` calls it after the lines of bounds.

@@ -54,6 +54,10 @@ const LITTLE_ROOM: &str =
 const NO_ROOM: &str =
     "The queue may drop frames: no sufficient capacity is known. A capacity is known for at most 4096 frames, and only without a schedule change.\n";
 
+/// Sentences on stream gates that are apart in time. `{0}`: the queue's delay bound in ns.
+const APART: &str =
+    "The stream gates of these filters are apart in time: after one was open, the others stay closed for {0} ns. So no filter of the group changes another filter's departures, drops or delays in this queue.\n";
+
 /// What the filters that share a queue can send: the sums of their meters, and their longest frame.
 #[derive(Clone, Copy)]
 struct Sharers {
@@ -155,7 +159,8 @@ pub(crate) fn put_group<A: Allocator + Copy>(
     }
 }
 
-/// Writes the windows, the bound, the meters and the capacity of a shared queue. `put_group` calls it.
+/// Writes the windows, the bound, the meters and the capacity of a shared queue, and whether its filters are isolated by themselves.
+/// `put_group` calls it.
 fn put_shared_queue<A: Allocator + Copy>(said: &mut LintText, plan: &Plan<A>, row: &SharedQueue) {
     if row.port < 1 || row.port > 16 || row.class > 7 {
         return;
@@ -167,6 +172,9 @@ fn put_shared_queue<A: Allocator + Copy>(said: &mut LintText, plan: &Plan<A>, ro
     let sharers = queue_sharers(plan, row);
     put_bound(said, port, row, &sharers);
     put_capacity(said, row);
+    if row.is_apart && sharers.count > 1 {
+        said.put_template(APART, &[least_shared_bound(row)], &[]);
+    }
 }
 
 /// Writes the delay bound of a shared queue, and its filters' meters, or why the bound doesn't follow from meters. `put_shared_queue` calls

@@ -28,7 +28,7 @@ lost = record { own = 3; port = 3; refusal = refusal.Full } ∷ []
 
 -- A shared queue of class 6, by its group, port and bound in ns.
 abbrev queue : ℕ → ℕ → ℕ → SharedQueue
-queue group port bound = record { group = group; port = port; class = 6; bound = bound; is_metered = true; room = None; capacity = 16; by_gates = None; padded = None }
+queue group port bound = record { group = group; port = port; class = 6; bound = bound; is_metered = true; room = None; capacity = 16; by_gates = None; padded = None; is_apart = false }
 
 -- Each copy has a row, by rising port.
 pub two_copies : frame_rows (make_frame 10 1 (came 100000) (verdict.Pass None false)) left lost ≡ codes "10,1,1,100000,pass,3,300000,300672,200672,\n10,1,1,100000,pass,4,300000,300672,200672,\n"
