@@ -1,10 +1,12 @@
 #!/usr/bin/env python3
-"""Looks for delays near the printed bounds: bounds.py [--groups] [PLANS TRIES SEED]
+"""Looks for delays near the printed bounds: bounds.py [--groups | --apart] [PLANS TRIES SEED]
 
 Makes random plans (20 by default), each with windows of class 7 at an egress port and a stream gate with octet limits in some
 plans, asks `tsnbridge bounds` for `bound` and `padded`, and runs random captures of babbling talkers (60 by default for each
-bound). With --groups, two to five streams without meters share class 7, and each stream gate has octet limits. It prints a line for
-each plan, and the nearest delays at the end. The status is 1 if a delay exceeds its bound.
+bound). With --groups, two to five streams without meters share class 7, and each stream gate has octet limits. With --apart, their
+stream gates open one after the other, and for queues marked `apart` each stream's section of the report must be that of a run with only
+this stream's frames. It prints a line for each plan, and the nearest delays at the end. The status is 1 if a delay exceeds its bound,
+or if a section of an `apart` queue changed.
 """
 import os
 import random
@@ -24,7 +26,7 @@ SOURCE = bytes.fromhex("020000000001")
 class Plan:
     """A random plan: ports 1 and 2 receive, class 7 of port 3 has windows of its own, each stream's gate is open in some intervals."""
 
-    def __init__(self, draw, grouped):
+    def __init__(self, draw, grouped, in_turn):
         self.count = draw.randint(2, 5) if grouped else 1
         self.mbps = draw.choice([100, 1000])
         self.unit = 1000 if self.mbps == 1000 else 10_000
@@ -35,13 +37,13 @@ class Plan:
         self.windows = [draw.randint(longest, longest * most) for _ in range(draw.randint(1, 3))]
         self.pauses = [draw.randint(1, 20) * self.unit for _ in self.windows]
         self.cycle = sum(self.windows) + sum(self.pauses)
-        whole, parts = draw.choice([(1, 1), (2, 1), (3, 2), (1, 2)])
+        whole, parts = (2 * self.count * draw.randint(1, 3), 1) if in_turn else draw.choice([(1, 1), (2, 1), (3, 2), (1, 2)])
         if self.cycle % parts:
             self.pauses[0] += parts - self.cycle % parts
             self.cycle = sum(self.windows) + sum(self.pauses)
         self.gate_cycle = self.cycle // parts * whole
         self.limited = grouped or draw.random() < 0.6
-        self.gates = [self.gate_entries(draw) for _ in range(self.count)]
+        self.gates = [self.entry_in_turn(draw, it) if in_turn else self.gate_entries(draw) for it in range(self.count)]
         self.base = draw.randint(0, self.cycle - 1)
 
     def gate_entries(self, draw):
@@ -55,6 +57,12 @@ class Plan:
             entries.append((at, length, octets))
             at += length + draw.randint(1, max(1, self.gate_cycle // 3))
         return entries or [(0, self.gate_cycle // 2, self.sdu if self.limited else None)]
+
+    def entry_in_turn(self, draw, place):
+        """One open interval in the stream's share of the gate's cycle."""
+        share = self.gate_cycle // self.count
+        length = draw.randint(1, max(1, share // 4))
+        return [(place * share + draw.randint(0, share // 4), length, draw.choice([46, self.sdu, 2 * self.sdu]))]
 
     def text(self):
         """The plan as TOML."""
@@ -120,8 +128,8 @@ def arrivals(draw, plan, least):
     return sorted(found)
 
 
-def longest_delay(folder, plan, frames, cut):
-    """The longest delay of the streams in a run of these arrivals."""
+def sections_of(folder, plan, frames, cut):
+    """The sections of the streams in the report of a run of these arrivals."""
     header = struct.pack("<IHHiIII", 0xA1B23C4D, 2, 4, 0, 0, 65535, 1)
     for port in (1, 2, 3):
         with open(f"{folder}/in/{port}.pcap", "wb") as file:
@@ -131,26 +139,39 @@ def longest_delay(folder, plan, frames, cut):
     if ran.returncode:
         sys.exit(f"run: {ran.stdout}{ran.stderr}")
     with open(f"{folder}/out/report.txt", encoding="ascii") as file:
-        sections = file.read().split("filter 99")[0]
-    return max([int(it) for it in re.findall(r"^delay (\d+)$", sections, re.M)], default=0)
+        sections = re.split(r"^(?=filter )", file.read(), flags=re.M)
+    return [it for it in sections if it.startswith("filter ") and not it.startswith("filter 99")]
 
 
-def search(draw, folder, plan, least, tries):
-    """The longest delay that so many random runs find."""
-    return max(longest_delay(folder, plan, arrivals(draw, plan, least), least < 44) for _ in range(tries))
+def changed_sections(folder, plan, frames, cut, sections):
+    """The number of streams whose section differs from that of a run with only their own frames."""
+    alone = [sections_of(folder, plan, [it for it in frames if it[1] == place], cut)[place] for place in range(plan.count)]
+    return sum(one != other for one, other in zip(alone, sections))
+
+
+def search(draw, folder, plan, least, tries, apart):
+    """The longest delay that random runs find, and how many sections of an `apart` queue changed."""
+    longest, changed = 0, 0
+    for _ in range(tries):
+        frames = arrivals(draw, plan, least)
+        sections = sections_of(folder, plan, frames, least < 44)
+        longest = max([longest] + [int(it) for it in re.findall(r"^delay (\d+)$", "".join(sections), re.M)])
+        if apart:
+            changed += changed_sections(folder, plan, frames, least < 44, sections)
+    return longest, changed
 
 
 def main():
-    numbers = [it for it in sys.argv[1:] if it != "--groups"]
-    grouped = len(numbers) < len(sys.argv) - 1
+    numbers = [it for it in sys.argv[1:] if it not in ("--groups", "--apart")]
+    grouped, in_turn = len(numbers) < len(sys.argv) - 1, "--apart" in sys.argv
     plans, tries, seed = [int(it) for it in numbers] + [20, 60, 1][len(numbers) :]
-    draw, nearest, exceeded = random.Random(seed), {}, 0
+    draw, nearest, exceeded, changed, apart_plans = random.Random(seed), {}, 0, 0, 0
     with tempfile.TemporaryDirectory() as folder:
         os.mkdir(f"{folder}/in")
         os.mkdir(f"{folder}/out")
         made = 0
         while made < plans:
-            plan = Plan(draw, grouped)
+            plan = Plan(draw, grouped, in_turn)
             with open(f"{folder}/plan.toml", "w", encoding="ascii") as file:
                 file.write(plan.text())
             ran = subprocess.run([PROGRAM, "bounds", f"{folder}/plan.toml"], capture_output=True, text=True)
@@ -163,18 +184,20 @@ def main():
             bounds = {"bound": (int(said.group(2)), 2)}
             if said.group(3):
                 bounds["padded"] = (int(said.group(3)), 44)
-            words = []
+            words, apart = [], ran.stdout.splitlines()[0].endswith(" apart")
+            apart_plans += apart
             for name, (bound, least) in bounds.items():
-                delay = search(draw, folder, plan, least, tries)
+                delay, differing = search(draw, folder, plan, least, tries, apart)
                 exceeded += delay > bound
+                changed += differing
                 share = delay / bound if bound else 0
                 nearest[name] = max(nearest.get(name, (0, 0)), (share, made))
                 words.append(f"{name} {bound} delay {delay} share {share:.3f}")
-            print(f"plan {made}{said.group(1) or ''}: {', '.join(words)}", flush=True)
+            print(f"plan {made}{said.group(1) or ''}{' apart' if apart else ''}: {', '.join(words)}", flush=True)
     for name, (share, number) in nearest.items():
         print(f"nearest to {name}: {share:.4f} (plan {number})")
-    print(f"exceeded {exceeded}")
-    sys.exit(1 if exceeded else 0)
+    print(f"exceeded {exceeded}, plans with an apart queue {apart_plans}, changed sections there {changed}")
+    sys.exit(1 if exceeded or changed else 0)
 
 
 if __name__ == "__main__":

@@ -53,3 +53,26 @@ apart_always ls laws cycle gap some common each i j s t x y at_x at_y other open
     let open_y : gate_opens y u ≡ true = sym two ∙ (ap (gate_opens y) second ∙ also) in
     let near = each i (slice_get_within ls i x at_x) j r u x y at_x at_y other below open_x open_y (omega (arith, parts, after)) in
     omega (arith, near, first, second)
+
+-- LOOPS
+
+-- One more list is closed.
+pub one_more_closed : (ls : List (Cyclic GateEntry)) (own from until i : ℕ) (x : Cyclic GateEntry) → slice_get ls i ≡ Some x → IsClosedUntil x from until → AreOthersClosedBefore ls own from until i → AreOthersClosedBefore ls own from until (i + 1)
+one_more_closed ls own from until i x at closed before j y less at_y other = elim (cases_lt j i) [
+  | inl early ↦ before j y early at_y other
+  | inr late ↦
+      let same : j ≡ i = omega (arith, less, late) in
+      let equal : y ≡ x = same_Some y x (sym at_y ∙ (ap (slice_get ls) same ∙ at)) in
+      subst (λ (l : Cyclic GateEntry). IsClosedUntil l from until) (sym equal) closed
+]
+
+-- The list that is left out adds nothing.
+pub own_left_out : (ls : List (Cyclic GateEntry)) (own from until i : ℕ) → i ≡ own → AreOthersClosedBefore ls own from until i → AreOthersClosedBefore ls own from until (i + 1)
+own_left_out ls own from until i same before j y less at_y other = elim (cases_lt j i) [
+  | inl early ↦ before j y early at_y other
+  | inr late ↦ absurd (other (omega (arith, less, late, same)))
+]
+
+-- Behind the last list, all others are closed.
+pub all_others : (ls : List (Cyclic GateEntry)) (own from until i : ℕ) → length ls ≤ i → AreOthersClosedBefore ls own from until i → AreOthersClosed ls own from until
+all_others ls own from until i past before j y at_y other = let inside = slice_get_within ls j y at_y in before j y (omega (arith, inside, past)) at_y other
