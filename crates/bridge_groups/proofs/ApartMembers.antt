@@ -162,14 +162,11 @@ module _ {A : Type 0} (p : Plan A) (group : ℕ) (plan : IsPlan p) (good : HasAc
     left : (y : Copy CarriedFrame) → IsMember y copies → HasLeftBy (egress_rules is.out) (y.at + least_shared_bound s) y
     left y i = by_fate y.fate refl
       where
-        abbrev Leaves : Fate → Type 0
-        Leaves z = done_time_or z (transmission_time y.item.len is.out.speed) 0 ≤ y.at + least_shared_bound s
-
         by_fate : (z : Fate) → y.fate ≡ z → HasLeftBy (egress_rules is.out) (y.at + least_shared_bound s) y
-        by_fate Never e = subst Leaves (sym e) (omega arith)
-        by_fate Full e = subst Leaves (sym e) (omega arith)
-        by_fate Queued e = subst Leaves (sym e) (omega arith)
-        by_fate (Started start) e = subst Leaves (sym e) (left_in_least_time p s is plan good es moments lists run whole order long start y (only_in s.class y (lists s.port) i) (of_class s.class y (lists s.port) i) e)
+        by_fate Never e = rw e (omega arith)
+        by_fate Full e = rw e (omega arith)
+        by_fate Queued e = rw e (omega arith)
+        by_fate (Started start) e = rw e (left_in_least_time p s is plan good es moments lists run whole order long start y (only_in s.class y (lists s.port) i) (of_class s.class y (lists s.port) i) e)
 
     -- A copy of another filter arrives after the bound.
     gap : (n : ℕ) (x y : Copy CarriedFrame) → IsMember x copies → IsMember y copies → is_own_item n y.item ≡ not (is_own_item n x.item) → y.at ≤ x.at → y.at + least_shared_bound s ≤ x.at

@@ -222,10 +222,10 @@ module _ {A : Type 0} (p : Plan A) (n q c m share : ℕ) (some_share : 1 ≤ sha
   keep_intervals : (es : List Event) → AreFine es → KeepsIntervals (class_offers c (port_offers p out es))
   keep_intervals es fine =
       offers_keep p out c AreFine KeepsIntervals tt
-      (λ a ds f. (f.0.1, f.1.0.1, λ o i class. f.1.1 o (in_right o (destination_offer p out a ds (frame_destination p a)) (port_offers p out ds) i) class))
+      (λ a ds f. (f.0.1, f.1.1, λ o i class. f.2 o (in_right o (destination_offer p out a ds (frame_destination p a)) (port_offers p out ds) i) class))
       (λ d k ds f. f)
       (λ a ds o f list moment before.
-      one_more a ds o (class_offers c (port_offers p out ds)) f.0 f.1.0 (λ x i. let (among, class) = in_class_in c x (port_offers p out (Arrived a ∷ ds)) i in f.1.1 x among class) list moment before)
+      one_more a ds o (class_offers c (port_offers p out ds)) f.0 f.1 (λ x i. let (among, class) = in_class_in c x (port_offers p out (Arrived a ∷ ds)) i in f.2 x among class) list moment before)
       es fine
 
   module _ (es : List Event) (moments : ℕ → ℕ) (lists : ℕ → List (Copy CarriedFrame)) (run : IsRun p es moments lists) (whole : AreFinished lists) (order : AreArrivalsInOrder es) (long : HaveSdus share es) where

@@ -74,8 +74,11 @@ pub part_copied : (n : ℕ) (xs : List (Copy CarriedFrame)) → copy_offers (par
 part_copied n [] = refl
 part_copied n (x ∷ xs) = by_bool (is_own_item n x.item) (λ k. rw (k, part_copied n xs) refl) (λ k. rw k (part_copied n xs))
 
+as_pair : (x : ℕ × FilterPlan) (n : ℕ) (f : FilterPlan) → x.0 ≡ n → f ≡ x.1 → x ≡ (n, f)
+as_pair x n f number same = let h : (x.0, x.1) ≡ (n, f) = ap (λ (k : ℕ). (k, x.1)) number ∙ ap (λ (g : FilterPlan). (n, g)) (sym same) in h
+
 module _ {A : Type 0} (p : Plan A) (group : ℕ) (plan : IsPlan p) (good : HasAcceptableGroups p) (n : ℕ) (f : FilterPlan) (member : IsGroupMember p group n f) where
-  own : List Event → List Event
+  abbrev own : List Event → List Event
   own es = own_events p n f es
 
   verdict_same : (es : List Event) (c : FilterInput) → verdicts.frame_verdict (plan_police p) (police_steps p (own es)) c n f ≡ verdicts.frame_verdict (plan_police p) (police_steps p es) c n f
@@ -143,7 +146,7 @@ module _ {A : Type 0} (p : Plan A) (group : ℕ) (plan : IsPlan p) (good : HasAc
         let number : x.0 ≡ n = eqb-true x.0 n k in
         let there_x : IsMember (n, x.1) p.filters = subst (λ (i : ℕ). IsMember (i, x.1) p.filters) number (flow_listed p.filters c x fl) in
         let same : f ≡ x.1 = one_number p.filters n f x.1 plan.filters.own member.listed there_x in
-        let pair : x ≡ (n, f) = let h : (x.0, x.1) ≡ (n, f) = rw (number, same) refl in h in
+        let pair : x ≡ (n, f) = as_pair x n f number same in
         own_frame a es c e (fl ∙ ap Some pair) before)
         (λ k.
         let left : own (Arrived a ∷ es) ≡ own es = rw (e, fl, k) refl in
