@@ -8,6 +8,7 @@ pub mod Told
 pub mod Views
 pub mod Lengths
 pub mod PrintedBounds
+pub mod ApartRuns
 pub mod NetworkBounds
 pub mod Ended
 pub mod RunFiles

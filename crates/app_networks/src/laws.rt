@@ -1,5 +1,6 @@
 //! Laws of a stream's delays through a network: contracts of functions without a body. Reviewers read them; nobody calls these functions.
-ghost use Rattle.std.specs.Prelude.{◌≡◌, ◌≤◌, ◌+◌, ◌-◌, ℕ, Bool, List, Vec, Option, Some, None, length, slice_get};
+ghost use Rattle.std.specs.Prelude.{◌≡◌, ◌≤◌, ◌+◌, ◌-◌, ℕ, Bool, List, Vec, Option, Some, None, length, nat_eq, slice_get};
+ghost use Rattle.std.specs.Map.{lookup};
 ghost use Rattle.bridge_limits.specs.Members.{IsMember};
 ghost use Rattle.bridge_capture.specs.Grammar.{CapturedFrame};
 ghost use Rattle.bridge_frame.specs.Link.{transmission_time};
@@ -8,12 +9,17 @@ ghost use Rattle.bridge_config.specs.declared.command.Command.{Command};
 ghost use Rattle.bridge_config.specs.declared.ports.PortPlan.{PortPlan};
 ghost use Rattle.bridge_config.specs.Model.{Plan};
 ghost use Rattle.bridge_config.specs.Rules.{IsPlan, find_port};
-ghost use Rattle.bridge_check.specs.Acceptable.{IsAcceptable};
+ghost use Rattle.bridge_check.specs.Acceptable.{HasAcceptableGroups, IsAcceptable};
 ghost use Rattle.bridge_semantics.specs.Offers.{CarriedFrame};
 ghost use Rattle.bridge_bounds.specs.Bounds.{IsTightBound};
 ghost use Rattle.bridge_groups.specs.Curves.{HasNoRunts};
 ghost use Rattle.bridge_core.specs.WholeRuns.{IsWholeRun};
+ghost use Rattle.bridge_filter.specs.declared.FilterPlan.{FilterPlan};
+ghost use Rattle.bridge_semantics.specs.Events.{own_events};
 ghost use Rattle.bridge_semantics.specs.Merge.{Input, input_events};
+ghost use Rattle.bridge_semantics.specs.Runs.{AreSameViews, IsSoloView};
+ghost use Rattle.bridge_semantics.specs.declared.outcome.View.{View};
+ghost use Rattle.bridge_groups.specs.ApartMembers.{IsApartMember};
 ghost use Rattle.bridge_semantics.specs.declared.outcome.Departure.{Departure};
 ghost use Rattle.bridge_semantics.specs.declared.outcome.Outcome.{Outcome};
 ghost use Rattle.net_file.specs.Model.{Stream};
@@ -167,4 +173,32 @@ pub fn read_in_printed_time<A: Allocator + Copy, W>()
         → HasNoRunts (input_events ran.inputs)
         → IsPaddedBound p n q x.class a b
         → s + transmission_time x.item.len out.speed ≤ x.at + b }
+{}
+
+/// In a complete run of one bridge over captures, only its own events give the record of a filter whose queues are apart in time (`alone`).
+/// Two runs with equal own events give it equal records (`equal`).
+///
+/// So the word `apart` that `bounds` prints holds for each run of `run`.
+pub fn read_apart_is_isolated<A: Allocator + Copy, W>()
+    ensures alone { (p : Plan A) (ports : List ℕ) (commands : List Command) (texts : ℕ → List ℕ) (contents : W
+        → Option (List ℕ))
+        (olds news : List W) (o : Outcome A) (group n : ℕ) (f : FilterPlan) (v : View A)
+        → (ran : IsWholeRun p ports commands texts contents olds news o)
+        → IsPlan p
+        → HasAcceptableGroups p
+        → IsApartMember p group n f
+        → lookup (nat_eq n) o.filters.items ≡ Some v
+        → IsSoloView p n f (own_events p n f (input_events ran.inputs)) v }
+    ensures equal { (p : Plan A) (ports : List ℕ) (commands others : List Command) (texts more : ℕ → List ℕ) (contents : W
+        → Option (List ℕ))
+        (olds news starts ends : List W) (o q : Outcome A) (group n : ℕ) (f : FilterPlan) (u v : View A)
+        → (a : IsWholeRun p ports commands texts contents olds news o)
+        → (b : IsWholeRun p ports others more contents starts ends q)
+        → IsPlan p
+        → HasAcceptableGroups p
+        → IsApartMember p group n f
+        → own_events p n f (input_events a.inputs) ≡ own_events p n f (input_events b.inputs)
+        → lookup (nat_eq n) o.filters.items ≡ Some u
+        → lookup (nat_eq n) q.filters.items ≡ Some v
+        → AreSameViews u v }
 {}

@@ -28,10 +28,10 @@ pub returns-clause-captured : goal.returns-clause-captured
 returns-clause-captured g c =
     let are = subst (λ (o : Option _). IfSome o (λ v. AreGateLists c.args.plan.now c.args.sharers.now v.items)) c.in-Some.is c.in-Ok.ensures in
     let merged = subst (λ (o : Option (Cyclic GateEntry)). IfSome o (IsMergedList c.deref.result.now)) c.in-Some-list.is c.in-Ok-merged_list.ensures in
-    gates_bound_is c.args.plan.now c.args.port.now c.args.sharers.now c.args.class 2 c.args.sdu c.port_gate_bound.result c.in-Some.lists.items c.in-Some-list.merged (omega arith) (omega arith) are (subst (λ (ls : List (Cyclic GateEntry)). IsMergedList ls c.in-Some-list.merged) c.deref.ensures.value merged) c.requires.sdu c.port_gate_bound.ensures
+    gates_bound_is c.args.plan.now c.args.port.now c.args.sharers.now c.args.class 2 c.args.sdu c.port_gate_bound-captured.result c.in-Some.lists.items c.in-Some-list.merged (omega arith) (omega arith) are (subst (λ (ls : List (Cyclic GateEntry)). IsMergedList ls c.in-Some-list.merged) c.deref.ensures.value merged) c.requires.sdu c.port_gate_bound-captured.ensures
 
 pub returns-clause-padded : goal.returns-clause-padded
 returns-clause-padded g c =
     let are = subst (λ (o : Option _). IfSome o (λ v. AreGateLists c.args.plan.now c.args.sharers.now v.items)) c.in-Some.is c.in-Ok.ensures in
     let merged = subst (λ (o : Option (Cyclic GateEntry)). IfSome o (IsMergedList c.deref.result.now)) c.in-Some-list.is c.in-Ok-merged_list.ensures in
-    gates_bound_is c.args.plan.now c.args.port.now c.args.sharers.now c.args.class 44 c.args.sdu c.port_gate_bound-2.result c.in-Some.lists.items c.in-Some-list.merged (omega arith) (omega arith) are (subst (λ (ls : List (Cyclic GateEntry)). IsMergedList ls c.in-Some-list.merged) c.deref.ensures.value merged) c.requires.sdu c.port_gate_bound-2.ensures
+    gates_bound_is c.args.plan.now c.args.port.now c.args.sharers.now c.args.class 44 c.args.sdu c.port_gate_bound.result c.in-Some.lists.items c.in-Some-list.merged (omega arith) (omega arith) are (subst (λ (ls : List (Cyclic GateEntry)). IsMergedList ls c.in-Some-list.merged) c.deref.ensures.value merged) c.requires.sdu c.port_gate_bound.ensures
