@@ -1,5 +1,5 @@
 -- A filter whose stream gate is apart in time from the other gates of its queues is isolated by itself.
-use Rattle.std.proofs.Common.{◌≡◌, ◌≢◌, ◌≤◌, ◌<◌, ◌+◌, ℕ, suc, Bool, true, false, not, List, [], ◌∷◌, Option, Some, None, arith, refl, ap, sym, subst, ◌∙◌, inl, inr}
+use Rattle.std.proofs.Common.{◌≡◌, ◌≢◌, ◌≤◌, ◌+◌, ℕ, suc, Bool, true, false, not, List, [], ◌∷◌, Option, Some, arith, refl, ap, sym, subst, ◌∙◌, inl, inr}
 use Rattle.std.specs.Prelude.{nat_eq, slice_get}
 use Rattle.std.specs.Map.{lookup}
 use Rattle.std.proofs.lemmas.Bool.{false≢true}
@@ -7,14 +7,13 @@ use Rattle.std.proofs.lemmas.Option.{same_Some}
 use Rattle.bridge_limits.specs.Members.{IsMember}
 use Rattle.bridge_limits.proofs.Cases.{by_bool}
 use Rattle.bridge_cycle.specs.Cyclic.{Cyclic}
-use Rattle.bridge_frame.specs.Link.{transmission_time}
 use Rattle.bridge_frame.proofs.Times.{occupied_some}
 use Rattle.bridge_gate.specs.declared.schedule.GateEntry.{GateEntry}
 use Rattle.bridge_filter.specs.declared.FilterPlan.{FilterPlan}
 use Rattle.bridge_filter.proofs.Members.{member_found}
 use Rattle.bridge_filter.proofs.Owned.{told_listed}
 use Rattle.bridge_port.specs.Schedule.{AreOffersInOrder, Copy, Fate, Full, Never, PortRules, Queued, Started}
-use Rattle.bridge_port.specs.Solo.{IsSolo, class_copies, done_time_or}
+use Rattle.bridge_port.specs.Solo.{IsSolo, class_copies}
 use Rattle.bridge_config.specs.declared.ports.PortPlan.{PortPlan}
 use Rattle.bridge_config.specs.Model.{Plan}
 use Rattle.bridge_config.specs.Rules.{IsPlan, find_port}
@@ -23,8 +22,7 @@ use Rattle.bridge_check.specs.Acceptable.{HasAcceptableGroups}
 use Rattle.bridge_check.specs.Reach.{reaches_queue}
 use Rattle.bridge_semantics.specs.declared.outcome.Outcome.{Outcome}
 use Rattle.bridge_semantics.specs.declared.outcome.View.{View}
-use Rattle.bridge_semantics.specs.Events.{Arrival, Arrived, Cleared, Event, filter_inputs, own_events, plan_police}
-use Rattle.bridge_semantics.specs.Groups.{IsGroupMember, IsGroupQueue}
+use Rattle.bridge_semantics.specs.Events.{Arrived, Event, filter_inputs, own_events, plan_police}
 use Rattle.bridge_semantics.specs.Offers.{CarriedFrame, Offer, class_offers, copy_offers, egress_rules, port_offers}
 use Rattle.bridge_semantics.specs.Runs.{AreFinished, AreSameViews, AreSolo, IsOutcome, IsPortCopy, IsRun, IsSoloView}
 use Rattle.bridge_semantics.proofs.GroupMembers as members
@@ -32,7 +30,6 @@ use Rattle.bridge_semantics.proofs.Grouped as group_of
 use Rattle.bridge_semantics.proofs.Headline.{as_offer, in_in_class, in_offered, in_only, only_in, origins_own, view_as}
 use Rattle.bridge_semantics.proofs.Steps.{steps_own}
 use Rattle.bridge_semantics.proofs.Views.{told_once}
-use Rattle.bridge_groups.specs.ApartGates.{AreListsApart}
 use Rattle.bridge_groups.specs.ApartMembers.{HasApartQueue, IsApartMember}
 use Rattle.bridge_groups.specs.ApartParts.{AreApart, HasLeftBy, part_copies}
 use Rattle.bridge_groups.specs.Curves.{AreArrivalsInOrder, has_filter_number}
@@ -66,10 +63,10 @@ copies_apart : {X : Type 0} (r : PortRules X) (own : X → Bool) (b h : ℕ) (xs
 copies_apart r own b h [] order left gap = tt
 copies_apart r own b h (x ∷ xs) order left gap = (
   (λ y i other.
-  let before = offered_before x.at xs y order.1 i in
-  let by = left y (inr i) in
-  let late = gap x y (inl refl) (inr i) other before in
-  omega (arith, by, late)),
+      let before = offered_before x.at xs y order.1 i in
+      let by = left y (inr i) in
+      let late = gap x y (inl refl) (inr i) other before in
+      omega (arith, by, late)),
   copies_apart r own b x.at xs order.1 (λ y i. left y (inr i)) (λ y z i j. gap y z (inr i) (inr j)),
 )
 
@@ -177,11 +174,11 @@ module _ {A : Type 0} (p : Plan A) (group : ℕ) (plan : IsPlan p) (good : HasAc
         let la = list_at p sharers gates.lists gates.are a.number a.filter a.shares in
         let lb = list_at p sharers gates.lists gates.are b.number b.filter b.shares in
         let apart_of : lb.index ≢ la.index = λ same.
-            let both : Some (b.number, b.filter) ≡ Some (a.number, a.filter) = sym lb.filter ∙ (ap (slice_get sharers) same ∙ la.filter) in
-            let number : b.number ≡ a.number = ap (λ (z : ℕ × FilterPlan). z.0) (same_Some (b.number, b.filter) (a.number, a.filter) both) in
-            let flows : y.item.flow ≡ x.item.flow = b.flow ∙ (ap Some number ∙ sym a.flow) in
-            let equal : is_own_item n y.item ≡ is_own_item n x.item = ap (λ (z : Option ℕ). has_filter_number z n) flows in
-            not_self (is_own_item n x.item) (sym equal ∙ other) in
+        let both : Some (b.number, b.filter) ≡ Some (a.number, a.filter) = sym lb.filter ∙ (ap (slice_get sharers) same ∙ la.filter) in
+        let number : b.number ≡ a.number = ap (λ (z : ℕ × FilterPlan). z.0) (same_Some (b.number, b.filter) (a.number, a.filter) both) in
+        let flows : y.item.flow ≡ x.item.flow = b.flow ∙ (ap Some number ∙ sym a.flow) in
+        let equal : is_own_item n y.item ≡ is_own_item n x.item = ap (λ (z : Option ℕ). has_filter_number z n) flows in
+        not_self (is_own_item n x.item) (sym equal ∙ other) in
         gates.apart lb.index la.index y.at x.at lb.list la.list lb.at la.at apart_of (b.lets lb.list lb.is) (a.lets la.list la.is) before
       where
         not_self : (b : Bool) → b ≡ not b → ⊥

@@ -17,7 +17,7 @@ use Rattle.bridge_config.specs.declared.ports.PortPlan.{PortPlan}
 use Rattle.bridge_config.specs.Model.{Plan}
 use Rattle.bridge_config.specs.Rules.{IsPlan, find_port}
 use Rattle.bridge_check.specs.Windows.{longest_frame}
-use Rattle.bridge_semantics.specs.Events.{Arrival, Arrived, Cleared, Event, frame_destination, metered_octets, plan_police, police_steps}
+use Rattle.bridge_semantics.specs.Events.{Arrived, Event, metered_octets, plan_police, police_steps}
 use Rattle.bridge_semantics.specs.Offers.{CarriedFrame, Offer, class_offers, copy_offers, egress_rules, port_offers}
 use Rattle.bridge_semantics.specs.Runs.{AreFinished, IsRun}
 use Rattle.bridge_semantics.proofs.Headline.{in_class_in, in_only}

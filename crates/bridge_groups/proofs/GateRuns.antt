@@ -35,7 +35,7 @@ use Rattle.bridge_config.specs.Rules.{IsPlan, find_port}
 use Rattle.bridge_check.specs.Acceptable.{IsAcceptable}
 use Rattle.bridge_check.specs.Reach.{reaches_queue}
 use Rattle.bridge_check.specs.Windows.{longest_frame}
-use Rattle.bridge_semantics.specs.Events.{Arrival, Arrived, Cleared, Event, frame_destination, plan_police}
+use Rattle.bridge_semantics.specs.Events.{Arrival, Arrived, Event, frame_destination, plan_police}
 use Rattle.bridge_semantics.specs.Offers.{CarriedFrame, Offer, class_offers, copy_offers, destination_offer, egress_rules, port_offers}
 use Rattle.bridge_semantics.specs.Runs.{AreFinished, IsRun}
 use Rattle.bridge_semantics.proofs.Facts.{own_queues, served_alone}

@@ -1,5 +1,5 @@
 -- The offers of one filter among the offers to a port.
-use Rattle.std.proofs.Common.{◌≡◌, ◌+◌, ℕ, Bool, true, false, List, [], ◌∷◌, ◌++◌, refl, ap, ◌∙◌, sym, subst, inl, inr, Option, Some, None}
+use Rattle.std.proofs.Common.{◌≡◌, ◌+◌, ℕ, Bool, true, List, [], ◌∷◌, ◌++◌, refl, ap, ◌∙◌, sym, subst, inl, inr, Option, Some, None}
 use Rattle.std.specs.Prelude.{nat_eq, if◌then◌else◌}
 use Rattle.std.proofs.lemmas.Option.{same_Some}
 use Rattle.std.proofs.lemmas.Bool.{eqb-true, false≢true}
@@ -12,7 +12,7 @@ use Rattle.bridge_filter.specs.declared.FilterPlan.{FilterPlan}
 use Rattle.bridge_filter.specs.declared.Verdict.{Verdict}
 use Rattle.bridge_filter.specs.Verdicts as verdicts
 use Rattle.bridge_filter.specs.Verdicts.{FilterStep, frame_filter, is_match}
-use Rattle.bridge_filter.specs.OwnEvents.{is_filter_number, is_own_command}
+use Rattle.bridge_filter.specs.OwnEvents.{is_own_command}
 use Rattle.bridge_filter.proofs.Members.{one_number}
 use Rattle.bridge_filter.proofs.Owned.{flow_listed, told_listed, verdict_own}
 use Rattle.bridge_port.specs.Schedule.{Copy}
@@ -22,7 +22,7 @@ use Rattle.bridge_config.specs.Rules.{IsPlan, find_port}
 use Rattle.bridge_check.specs.Acceptable.{HasAcceptableGroups}
 use Rattle.bridge_semantics.specs.declared.destination.Destination.{Destination}
 use Rattle.bridge_semantics.specs.declared.destination.Destination.TheVariants.{Forwarded, Malformed, Nowhere}
-use Rattle.bridge_semantics.specs.Events.{Arrival, Arrived, Cleared, Event, arrival_filter, arrival_input, count_filter_frames, destination_input, filter_inputs, frame_destination, own_events, plan_police, police_steps}
+use Rattle.bridge_semantics.specs.Events.{Arrival, Arrived, Cleared, Event, arrival_input, count_filter_frames, destination_input, filter_inputs, frame_destination, own_events, plan_police, police_steps}
 use Rattle.bridge_semantics.specs.Groups.{IsGroupMember}
 use Rattle.bridge_semantics.specs.Offers.{CarriedFrame, Offer, arrival_offer, class_offers, copy_offers, destination_offer, frame_step, port_offers, step_offer, verdict_offer}
 use Rattle.bridge_semantics.proofs.GroupMembers.{has_flow}

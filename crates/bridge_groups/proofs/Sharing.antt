@@ -1,5 +1,5 @@
 -- Delays of a group's frames in the queues that its filters share.
-use Rattle.std.proofs.Common.{Bool, ◌≡◌, ◌≤◌, ◌+◌, ◌-◌, ◌<◌, ◌/◌, ◌*◌, ◌⊎◌, ℕ, true, List, [], ◌∷◌, Some, arith, ap, refl, sym, subst, inl, inr, ◌∙◌}
+use Rattle.std.proofs.Common.{Bool, ◌≡◌, ◌≤◌, ◌+◌, ◌-◌, ◌<◌, ◌/◌, ◌*◌, ◌⊎◌, ℕ, true, List, [], ◌∷◌, Some, arith, ap, sym, subst, inl, inr, ◌∙◌}
 use Rattle.std.specs.Prelude.{nat_eq}
 use Rattle.std.proofs.lemmas.Bool.{eqb-true}
 use Rattle.std.proofs.Math.Nat.{div-mul-le_self, le-div_iff_mul-le, mul-le-mul_left}
@@ -9,13 +9,10 @@ use Rattle.bridge_cycle.specs.Fits.{IsFirstFit}
 use Rattle.bridge_frame.specs.declared.Speed.{Speed}
 use Rattle.bridge_frame.specs.Link.{transmission_time}
 use Rattle.bridge_frame.proofs.Times.{occupied_some}
-use Rattle.bridge_forward.specs.Ports.{has_port}
 use Rattle.bridge_meter.specs.Colours.{octet_units}
 use Rattle.bridge_filter.specs.declared.Clear.{Clear}
 use Rattle.bridge_filter.specs.declared.FilterPlan.{FilterPlan}
-use Rattle.bridge_filter.specs.declared.Verdict.{Verdict}
-use Rattle.bridge_filter.specs.declared.Verdict.TheVariants as verdict
-use Rattle.bridge_filter.specs.Verdicts.{Commanded, FilterStep, Judged, Unfiltered, meter_share}
+use Rattle.bridge_filter.specs.Verdicts.{meter_share}
 use Rattle.bridge_port.specs.GateSchedule.{lists_open}
 use Rattle.bridge_port.specs.Schedule.{AreOffersInOrder, Copy, Full, PortRules, Started}
 use Rattle.bridge_port.specs.Solo.{IsSolo, class_copies}
@@ -26,10 +23,8 @@ use Rattle.bridge_config.specs.Rules.{IsPlan, find_port}
 use Rattle.bridge_config.proofs.PlanPorts.{at_own, at_port}
 use Rattle.bridge_check.specs.Reach.{reaches_queue}
 use Rattle.bridge_check.specs.Windows.{longest_frame}
-use Rattle.bridge_semantics.specs.declared.destination.Destination.{Destination}
-use Rattle.bridge_semantics.specs.declared.destination.Destination.TheVariants as way
-use Rattle.bridge_semantics.specs.Events.{Arrival, Arrived, Cleared, Event, frame_destination, plan_police, police_steps}
-use Rattle.bridge_semantics.specs.Offers.{CarriedFrame, Offer, class_offers, copy_offers, destination_offer, egress_rules, frame_step, port_offers, step_offer, verdict_offer}
+use Rattle.bridge_semantics.specs.Events.{Arrival, Arrived, Cleared, Event, plan_police, police_steps}
+use Rattle.bridge_semantics.specs.Offers.{CarriedFrame, Offer, class_offers, copy_offers, egress_rules, port_offers}
 use Rattle.bridge_semantics.specs.Runs.{AreFinished, IsRun}
 use Rattle.bridge_semantics.proofs.Headline.{as_offer, in_class_in, in_in_class, in_offered, in_only, only_in}
 use Rattle.bridge_bounds.specs.Bounds.{IsLongestTime}

@@ -1,4 +1,4 @@
-use Rattle.std.proofs.Common.{◌≤◌, ◌<◌, ℕ, length, arith}
+use Rattle.std.proofs.Common.{arith}
 use Rattle.bridge_groups.proofs.ApartGates.{apart_always}
 use Rattle.bridge_groups.proofs.apart_gates.are_lists_apart.Goals as goal
 

@@ -1,4 +1,4 @@
-use Rattle.std.proofs.Common.{◌≡◌, ◌<◌, ℕ}
+use Rattle.std.proofs.Common.{◌<◌, ℕ}
 use Rattle.bridge_groups.specs.ApartGates.{LeavesGap}
 use Rattle.bridge_groups.proofs.apart_gates.are_lists_apart.Given as goal
 

@@ -1,5 +1,4 @@
 use Rattle.std.proofs.Common.{length, refl}
-use Rattle.std.specs.Prelude.{slice_get}
 use Rattle.std.proofs.lemmas.Option.{slice_get_read}
 use Rattle.bridge_limits.proofs.Members.{in_at}
 use Rattle.bridge_groups.proofs.ApartGates.{all_others, one_more_closed, own_left_out}

@@ -1,4 +1,3 @@
-use Rattle.std.proofs.Common.{◌≡◌}
 use Rattle.bridge_groups.proofs.ApartGates.{AreOthersClosedBefore}
 use Rattle.bridge_groups.proofs.apart_gates.are_others_closed.Given as goal
 

@@ -1,4 +1,3 @@
-use Rattle.std.proofs.Common.{◌≡◌}
 use Rattle.bridge_groups.specs.ApartGates.{IsClosedUntil}
 use Rattle.bridge_groups.proofs.apart_gates.is_closed.Given as goal
 
