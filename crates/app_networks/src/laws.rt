@@ -189,8 +189,8 @@ pub fn read_apart_is_isolated<A: Allocator + Copy, W>()
         → IsApartMember p group n f
         → lookup (nat_eq n) o.filters.items ≡ Some v
         → IsSoloView p n f (own_events p n f (input_events ran.inputs)) v }
-    ensures equal { (p : Plan A) (ports : List ℕ) (commands others : List Command) (texts more : ℕ → List ℕ) (contents : W
-        → Option (List ℕ))
+    ensures equal { (p : Plan A) (ports : List ℕ) (commands others : List Command) (texts more : ℕ → List ℕ)
+        (contents : W → Option (List ℕ))
         (olds news starts ends : List W) (o q : Outcome A) (group n : ℕ) (f : FilterPlan) (u v : View A)
         → (a : IsWholeRun p ports commands texts contents olds news o)
         → (b : IsWholeRun p ports others more contents starts ends q)

@@ -16,7 +16,7 @@ use Rattle.bridge_semantics.proofs.Headline.{as_offer, in_class_in, in_offered, 
 use Rattle.bridge_semantics.proofs.Views.{after_all}
 use Rattle.bridge_bounds.specs.declared.traffic.Traffic.{Traffic}
 use Rattle.bridge_bounds.specs.Traffic.{ComeInPeriods, IsTraffic, KeepsTraffic}
-use Rattle.bridge_groups.proofs.Sharing.{one_by_way}
+use Rattle.bridge_groups.proofs.OneOffers.{one_by_way}
 
 -- LISTS BY FALLING TIME
 
