@@ -139,10 +139,11 @@ impl<'a, G: Agenda + Drop, A: Allocator + Copy> Bridge<'a, G, A> {
         self.command = command.at;
     }
 
-    /// Returns the port and time in ns of the next start, at equal times of the lowest port; `None` if no copy is queued. No port has
-    /// missed an earlier start (`next`). Allocates no memory.
+    /// Returns the port that starts a transmission next, and the start time in ns; `None` if no copy is queued. At equal times, the lowest
+    /// port is next.
     ///
-    /// Callers start this transmission before they hand in a later event.
+    /// No port has missed an earlier start (`next`). Allocates no memory. Callers start this transmission before they hand in a later
+    /// event.
     pub fn due(&self) -> Option<(u8, u64)>
         ensures next { (p : config.Plan A) (es : List Event) (left : ℕ → List CapturedFrame)
             → BridgeStandsFor p self.now es left
@@ -191,8 +192,8 @@ impl<'a, G: Agenda + Drop, A: Allocator + Copy> Bridge<'a, G, A> {
         self.relay.arrived()
     }
 
-    /// Returns the number of starts of port `port` so far: the number of frames that it has sent. Callers compare it with the number of
-    /// frames that `advance` returned.
+    /// Returns the number of transmissions that port `port` has started. Callers compare it with the number of frames that `advance`
+    /// returned.
     pub fn started(&self, port: u8) -> u64
         requires { (out : PortPlan A) × (find_port (bridge_plan self.now).ports port ≡ Some out) }
         ensures { (p : config.Plan A) (es : List Event) (left : ℕ → List CapturedFrame)
@@ -203,7 +204,9 @@ impl<'a, G: Agenda + Drop, A: Allocator + Copy> Bridge<'a, G, A> {
     }
 
     /// Returns the earliest time in ns at which the next frame may arrive. It is the time of the last event, but at least 1 ns after the
-    /// last start. Callers of `arrive` need it.
+    /// last transmission start.
+    ///
+    /// Callers of `arrive` need it.
     pub fn earliest(&self) -> u64
         ensures { result ≡ bridge_earliest self.now }
     {

@@ -102,8 +102,11 @@ fn read_next_ahead<R: ByteSource, A: Allocator + Copy>(
     lanes[place].read_ahead(spare, &mut sources[place])
 }
 
-/// Handles the earliest frame, from the reader with index `place`. Makes and writes all earlier starts, gives the frame to the relay, and
-/// reads the capture's next record. `process_earlier_frames` calls it.
+/// Handles the earliest frame, which the reader with index `place` holds. First starts all transmissions that are due before its arrival,
+/// and writes their frames to `sinks`.
+///
+/// Then gives the frame to the relay, and reads the capture's next record. Fails if a sink or the next record fails, or if memory runs out.
+/// `process_earlier_frames` calls it.
 fn process_frame<R: ByteSource, W: ByteSink, G: Agenda + Drop, A: Allocator + Copy>(
     place: usize,
     relay: &mut Relay<'_, G, A>,

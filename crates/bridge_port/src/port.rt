@@ -265,7 +265,7 @@ impl<T: Drop, A: Allocator + Copy> Port<T, A> {
         self.offered
     }
 
-    /// Returns the number of starts so far. `Relay::started` returns it.
+    /// Returns the number of transmissions that the port has started. `Ports::started` of `bridge_relay` calls it.
     pub fn started(&self) -> u64
         ensures { result ≡ self.now.started }
     {

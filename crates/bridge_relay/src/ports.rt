@@ -131,8 +131,8 @@ impl<G: Agenda + Drop, A: Allocator + Copy> Ports<G, A> {
         })
     }
 
-    /// Returns the next start: port and time in ns. At equal times, the lowest port is next. Returns `None` if no copy is queued.
-    /// `Relay::due` returns it.
+    /// Returns the port that starts a transmission next, and the start time in ns. At equal times, the lowest port is next. Returns `None`
+    /// if no copy is queued. `Relay::due` calls it.
     pub fn due(&self) -> Option<(u8, u64)>
         ensures { IsLeast (G.held self.now.agenda) result }
     {
@@ -200,7 +200,7 @@ impl<G: Agenda + Drop, A: Allocator + Copy> Ports<G, A> {
         }
     }
 
-    /// Returns the number of starts of port `number` so far: the number of frames that it sent. `Relay::started` calls it.
+    /// Returns the number of transmissions that port `number` has started. `Relay::started` calls it.
     pub fn started(&self, number: u8) -> u64
         requires from { 1 ≤ number }
         requires there { (s : PortState A) × (port_state self.now number ≡ Some s) }

@@ -121,7 +121,8 @@ fn limit_longest(limit: FrameLimit) -> u64
     }
 }
 
-/// Reads row `index`, from 1, with a limit of its frames from its table, or returns its first fault. `read_talker_row` calls it.
+/// Reads traffic row `index`, from 1, from its table: a row that limits the filter's frames. Returns the row's first fault if it has one.
+/// `read_talker_row` calls it.
 #[tactic(auto, unfolding(crate::specs::LimitedRows::read_limited_row))]
 pub(crate) fn read_limited_row(index: u32, table: &Table) -> Result<LimitedRow, NetFault>
     ensures reads { Gives result (spec.read_limited_row index (table_view table.now)) }

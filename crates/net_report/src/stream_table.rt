@@ -236,8 +236,10 @@ fn put_margin<A: Allocator>(text: &mut TextBuilder<A>, deadline: Option<u64>, wo
     }
 }
 
-/// Returns the row of a whole stream in `streams.csv`, with its bound and deadline. `figures` is `None` if no copy was delivered, `worst`
-/// if the talker's worst delay is unknown. `write_stream` calls it.
+/// Returns the `streams.csv` row of a stream; its hops have rows of their own. All times are in ns.
+///
+/// `figures` is `None` if no copy was delivered, `deadline` if the stream has none, `worst` if the talker's worst delay is unknown.
+/// `write_stream` calls it.
 pub fn stream_line<A: Allocator + Copy>(
     alloc: A,
     stream: &str,

@@ -27,7 +27,9 @@ struct ProtectedFilter<'a, A: Allocator + Copy> {
     feed: OfferedLoad,
 }
 
-/// Adds warnings about each queue of protected filter `number`. Does nothing if the filter lacks a handle, a largest SDU or a stream gate.
+/// Adds warnings about the queues of protected filter `number`: overload, small capacity, long waits and cycles that don't match. Does
+/// nothing if the filter lacks a handle, a largest SDU or a stream gate.
+///
 /// `find_plan_warnings` calls it.
 pub(crate) fn find_queues<A: Allocator + Copy>(
     alloc: Global,
