@@ -132,7 +132,7 @@ fn run_accepted_captures<H: AllocGlobal + Clock + Eprint + Files>(
 /// Facts of a complete run that its explanation needs.
 #[derive(Clone, Copy)]
 struct ExplanationData {
-    /// Line in the plan of a schedule change without effect, or `None`.
+    /// Line in the plan of a schedule change without effect. `None` if the plan has no change without effect.
     idle: Option<usize>,
     /// Times of the last arrival and departure, or `None` if unknown.
     last: Option<Last>,

@@ -447,7 +447,7 @@ pub struct NetworkRunRequest<'a> {
     pub input: &'a str,
     /// Path of the output folder.
     pub output: &'a str,
-    /// Path of the requested picture, or `None`.
+    /// Path of the requested picture. `None` if the arguments request none.
     pub picture: &'a Option<String>,
 }
 

@@ -64,13 +64,15 @@ unfoldable pub first_among_numbers : {X : Type 0} → ℕ → (ℕ → Option X)
 first_among_numbers zero tell = None
 first_among_numbers (suc n) tell = first_option (first_among_numbers n tell) (tell n)
 
--- The first fault that `tell port class` returns for a reachable queue of filter `f`, or `None`. Ports rise from 1 to
--- 16, and classes from 0 to 7 at each port.
+-- The first fault that `tell port class` returns for a reachable queue of filter `f`. `None` if every queue passes.
+-- Ports rise from 1 to 16, and classes from 0 to 7 at each port.
 abbrev pub first_fault_in_reach : {A : Type 0} → Plan A → FilterPlan → (ℕ → ℕ → Option CheckFault) → Option CheckFault
 first_fault_in_reach p f tell = first_among_numbers 16 (λ i. first_among_numbers 8 (λ c. if reaches_queue p f (i + 1) c then tell (i + 1) c else None))
 
--- Offset in ns from the cycle's start at which the port first opens class `c` together with another class, or `None`. A
--- port without a list gives 0, and a missing port `None`.
+-- Offset in ns from the cycle's start at which the port first opens class `c` together with another class. `None` if
+-- class `c` never opens together with another, or if the port is missing.
+--
+-- A port without a list gives 0.
 abbrev pub shared_phase_if_port : {A : Type 0} → Option (PortPlan A) → ℕ → Option ℕ
 shared_phase_if_port None c = None
 shared_phase_if_port (Some port) c = port_shared_phase port.list c

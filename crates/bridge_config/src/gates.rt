@@ -56,8 +56,8 @@ impl ListEntry for GateEntryReader {
     }
 }
 
-/// Whether a `[[gate]]` table has only allowed keys. Some keys need a schedule change: `change` is its time, or `None`. `has_gate_keys`
-/// calls it.
+/// Whether a `[[gate]]` table has only allowed keys. Some keys need a schedule change: `change` is its time in ns. `change` is `None` if
+/// the plan has no schedule change. `has_gate_keys` calls it.
 fn has_only_gate_keys(change: Option<u64>, table: &Table) -> bool
     ensures { result ≡ has_known_keys (sections.gate_keys change (table_view table.now)) (table_view table.now) }
 {

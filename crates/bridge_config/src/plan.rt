@@ -247,8 +247,10 @@ impl<A: Allocator + Copy> Model for Policing<A> {
     }) };
 }
 
-/// Reads the stream gates and meters, then the filters, which name them. `change` is the time of the schedule change in ns, or `None`.
-/// `read_plan` calls it.
+/// Reads the stream gates and meters, then the filters, which name them. `change` is the time of the schedule change in ns. `change` is
+/// `None` if the plan has no schedule change.
+///
+/// Returns the first fault of a section, or `NoMemory`. `read_plan` calls it.
 #[tactic(auto, unfolding(crate::specs::Document::read_policing))]
 fn read_policing<A: Allocator + Copy>(
     alloc: A,

@@ -70,8 +70,8 @@ impl ListEntry for PortEntryReader {
     }
 }
 
-/// Whether a `[[port]]` table has only allowed keys. Some keys need a schedule change: `change` is its time, or `None`. `has_port_keys`
-/// calls it.
+/// Whether a `[[port]]` table has only allowed keys. Some keys need a schedule change: `change` is its time in ns. `change` is `None` if
+/// the plan has no schedule change. `has_port_keys` calls it.
 fn has_only_port_keys(change: Option<u64>, table: &Table) -> bool
     ensures { result ≡ has_known_keys (sections.port_keys change (table_view table.now)) (table_view table.now) }
 {

@@ -141,7 +141,7 @@ abbrev pub classify : Option Tag → ℕ → ℕ → (ℕ × ℕ × Bool)
 classify None vid priority = (vid, priority, false)
 classify (Some tag) vid priority = ((if nat_eq tag.vid 0 then vid else tag.vid), tag.pcp, tag.dei)
 
--- The number of the filter that matches a frame's filter data, or `None`.
+-- The number of the filter that matches a frame's filter data. `None` if no filter matches.
 abbrev pub input_filter_number : {A : Type 0} → Plan A → FilterInput → Option ℕ
 input_filter_number p c = option_map (λ f. f.0) (verdicts.frame_filter p.filters c)
 

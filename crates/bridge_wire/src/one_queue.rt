@@ -74,7 +74,7 @@ fn offer_frame<W: ByteSink, A: Allocator + Copy>(
 /// Writes frames that start before `time` ns, then offers the frame ahead, which arrived at `time`, to the queue; malformed frames are only
 /// counted.
 ///
-/// Reads the next record and returns its arrival time in ns, or `None` at the capture's end. `send_all` calls it.
+/// Then reads the next record and returns its arrival time in ns. Returns `None` at the capture's end. `send_all` calls it.
 #[inline(always)]
 fn process_frame<R: ByteSource, W: ByteSink, A: Allocator + Copy>(
     speed: Speed,

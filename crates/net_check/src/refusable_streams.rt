@@ -269,8 +269,10 @@ fn put_condition(
     put_reason(said, plan, filter, traffic, class);
 }
 
-/// Returns the first port of a hop's bridge on which frames of other devices may get the hop's handle, or `None`. `is_first` is true for
-/// the stream's first hop. `put_hop_reason` calls it.
+/// Returns the first port of a hop's bridge on which frames of other devices may get the hop's handle. `None` if they can get it on no
+/// port.
+///
+/// `is_first` is true for the stream's first hop. `put_hop_reason` calls it.
 fn port_of_others(
     links: &[Link],
     is_first: bool,

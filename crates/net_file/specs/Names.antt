@@ -51,7 +51,7 @@ abbrev pub bridge_index_from_start : ℕ → List Bridge → List ℕ → Option
 bridge_index_from_start k [] name = None
 bridge_index_from_start k (b ∷ bs) name = if bytes_eq b.name name then Some k else bridge_index_from_start (suc k) bs name
 
--- The index of the first bridge with the name, from 0, or `None`.
+-- The index of the first bridge with the given name, from 0. `None` if no bridge has the name.
 abbrev pub bridge_index : List Bridge → List ℕ → Option ℕ
 bridge_index bridges name = bridge_index_from_start 0 bridges name
 

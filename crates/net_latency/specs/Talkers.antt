@@ -38,7 +38,8 @@ abbrev pub suits_hops : {A : Type 0} → List (Plan A) → Option Talker → Lis
 suits_hops plans None hops = true
 suits_hops plans (Some t) hops = list_all (λ (h : ℕ × ℕ). suits_hop (slice_get plans h.0) h.1 t.period) hops
 
--- The fault of the first stream whose period doesn't suit a hop, or `None`. The first stream has number `index`.
+-- The fault of the first stream whose period doesn't suit a hop. `None` if every period suits all hops. The first
+-- stream has number `index`.
 abbrev pub first_misfit : {A : Type 0} → List (Plan A) → ℕ → List Stream → Option NetFault
 first_misfit plans index [] = None
 first_misfit plans index (s ∷ ss) =

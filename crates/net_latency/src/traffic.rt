@@ -149,10 +149,10 @@ pub(crate) fn suits<A: Allocator + Copy>(plan: &Plan<A>, filter: &FilterPlan, pe
     !has_misfit(plan, filter, &reach, period)
 }
 
-/// Returns the fault of row `index`, with periodic traffic, or `None`.
+/// Returns the fault of periodic row `index`. The row has a fault if its filter is missing or unprotected, or its period isn't a multiple
+/// of a cycle time on the route.
 ///
-/// A row has a fault if its filter is missing or unprotected, or its period isn't a multiple of a cycle time on the route.
-/// `talker_row_fault` calls it.
+/// Returns `None` if the row has no fault. `talker_row_fault` calls it.
 pub(crate) fn row_fault<A: Allocator + Copy>(
     plan: &Plan<A>,
     index: u32,
@@ -180,8 +180,8 @@ pub(crate) fn row_fault<A: Allocator + Copy>(
     None
 }
 
-/// Returns the fault of row `index`, with a limit of its frames, or `None`. The row has a fault if its filter is missing or belongs to no
-/// group. `talker_row_fault` calls it.
+/// Returns the fault of limited row `index`: its filter is missing or belongs to no group. Returns `None` if the row has no fault.
+/// `talker_row_fault` calls it.
 fn group_fault<A: Allocator + Copy>(plan: &Plan<A>, index: u32, filter: u32) -> Option<TrafficFault>
     ensures { result ≡ kinds.group_fault index (lookup (nat_eq filter) plan.now.filters) }
 {
@@ -198,7 +198,11 @@ fn group_fault<A: Allocator + Copy>(plan: &Plan<A>, index: u32, filter: u32) -> 
     }
 }
 
-/// Returns the fault of row `index`, from 1, compared with the plan, or `None`. `explain_rows` and `traffic_fault` call it.
+/// Returns the fault of row `index`, from 1, compared with the plan. The filter of a periodic row may be missing or unprotected, or its
+/// period may be no multiple of a cycle time.
+///
+/// The filter of a limited row may be missing or in no group. Returns `None` if the row has no fault. `explain_rows` and `traffic_fault`
+/// call it.
 pub(crate) fn talker_row_fault<A: Allocator + Copy>(
     plan: &Plan<A>,
     index: u32,
@@ -212,8 +216,10 @@ pub(crate) fn talker_row_fault<A: Allocator + Copy>(
     }
 }
 
-/// Returns the first fault of the rows compared with the plan, or `None`. A filter may be missing, unprotected or in no group, or a period
-/// no multiple of a cycle time. `check_and_report` calls it.
+/// Returns the first fault of the rows compared with the plan. A filter may be missing, unprotected or in no group, or a period no multiple
+/// of a cycle time.
+///
+/// Returns `None` if no row has a fault. `check_and_report` calls it.
 pub fn traffic_fault<A: Allocator + Copy>(
     plan: &Plan<A>,
     rows: &[TalkerRow],

@@ -89,8 +89,8 @@ fn is_linked(links: &[Link], end: BridgePort) -> bool
     peer_port(links, end.bridge, end.port).is_some()
 }
 
-/// Returns the first end of `link` whose port has a link in `before`, or `None`. If the link joins a port to itself, its end `other`
-/// counts. `link_test_fault` calls it.
+/// Returns the first end of `link` whose port has a link in `before`. `None` if neither end is linked. If the link joins a port to itself,
+/// its end `other` counts. `link_test_fault` calls it.
 fn doubly_linked_end(before: &[Link], link: &Link) -> Option<BridgePort>
     ensures { result ≡ spec.doubly_linked_end before.now link.now }
 {
@@ -382,7 +382,8 @@ impl<'a, A: Allocator + Copy> TestedHop<'a, A> {
         }
     }
 
-    /// Returns the fault of the test `Closed` or `Fed` for hop `k` of stream `i`, or `None`. Both are indexes from 0; the fault counts from
+    /// Returns the fault of the test `Closed` or `Fed` for hop `k` of stream `i`. `None` if the hop passes the test. `k` and `i` are
+    /// indexes from 0; the fault counts from
     /// 1. `hop_test_fault_in_plan` calls it.
     fn frames_test_fault(&self, test: HopTest, i: usize, k: usize) -> Option<NetworkFault>
         requires case { IsTestedHop self.now }
@@ -642,7 +643,8 @@ impl<'a, A: Allocator + Copy> TestedNetwork<'a, A> {
         first
     }
 
-    /// Returns the first fault of a hop, or `None`. Finishes each test for all hops before the next test. `fault` calls it.
+    /// Returns the first fault of a hop. `None` if every hop passes all tests. Finishes each test for all hops before the next test.
+    /// `fault` calls it.
     fn first_hop_fault(&self) -> Option<NetworkFault>
         ensures { result ≡ spec.first_hop_fault (tested_parts self.now) }
     {
@@ -661,8 +663,8 @@ impl<'a, A: Allocator + Copy> TestedNetwork<'a, A> {
         self.hop_fault(HopTest::Fed)
     }
 
-    /// Returns the first fault of the network, or `None`: tests of links come before tests of hops. `first_fault` calls it for
-    /// `check_network`.
+    /// Returns the first fault of the network: tests of links come before tests of hops. `None` if the network passes all tests.
+    /// `first_fault` calls it for `check_network`.
     pub(crate) fn fault(&self) -> Option<NetworkFault>
         ensures { result ≡ spec.first_fault (tested_parts self.now) }
     {

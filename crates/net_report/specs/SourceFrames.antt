@@ -23,7 +23,7 @@ abbrev pub flatten : Option (Option SourceFrame) → Option SourceFrame
 flatten None = None
 flatten (Some r) = r
 
--- The source of the frame with number `n`, from 1, or `None`.
+-- The source of the frame with number `n`, from 1. `None` if the list lacks this number, or if the source is unknown.
 abbrev pub source_frame : List (Option SourceFrame) → ℕ → Option SourceFrame
 source_frame roots n = if nat_eq n 0 then None else flatten (slice_get roots (n - 1))
 

@@ -141,7 +141,7 @@ fn feed_port<A: Allocator + Copy>(
 }
 
 /// Delivers to each linked port of bridge `bridge` the frames that senders sent in this round (`ran`). Returns the first port whose input
-/// changed, or `None`. `feed_bridges` calls it.
+/// changed, or `None` if no input changed. `feed_bridges` calls it.
 fn feed_bridge<A: Allocator + Copy>(
     alloc: A,
     stations: &mut [BridgeRun<'_, A>],

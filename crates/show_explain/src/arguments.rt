@@ -57,8 +57,8 @@ fn has_option_value(name: &str) -> Option<bool> {
     }
 }
 
-/// Returns the first option among the arguments that no command has, or `None`. Arguments after `--` aren't options. `explain_arguments`
-/// calls it.
+/// Returns the first option among the arguments that no command has. `None` if every option belongs to a command. Arguments after `--`
+/// aren't options. `explain_arguments` calls it.
 fn unknown_option(words: &[String]) -> Option<&str> {
     for word in words {
         if word.as_str() == "--" {
@@ -212,8 +212,8 @@ fn is_value(word: Option<&String>) -> bool {
     }
 }
 
-/// Returns why option `name`, the argument with index `place`, is refused, or `None`. `is_early` is true if the command comes later.
-/// `wrong_option` calls it.
+/// Returns why option `name`, the argument with index `place`, is refused. `None` if the option isn't at fault. `is_early` is true if the
+/// command comes later. `wrong_option` calls it.
 fn option_fault(
     words: &[String],
     place: usize,

@@ -9,8 +9,8 @@ use bridge_config::{Plan, PortPlan};
 use bridge_cycle::{Run, longest_run};
 use std::alloc::{AllocError, Allocator};
 
-/// Returns the number of the first unprotected filter whose frames can enter the queue of class `class` at port `port`, or `None`.
-/// `find_class` calls it.
+/// Returns the number of the first unprotected filter whose frames can enter the queue of class `class` at port `port`. `None` if no frames
+/// of an unprotected filter can. `find_class` calls it.
 fn first_waiting_filter<A: Allocator + Copy>(plan: &Plan<A>, port: u8, class: u8) -> Option<u32>
     requires from { 1 ≤ port }
     requires to { port ≤ 16 }

@@ -43,7 +43,8 @@ fn is_reserved(address: [u8; 6]) -> bool {
     [a, b, c, d, e] == RESERVED && last <= 15
 }
 
-/// Returns the first port of `set` other than `own`, or `None`. `vlan_cause`, `static_entry_cause` and `are_several` call it.
+/// Returns the first port of `set` other than `own`. `None` if the set has no other port. `vlan_cause`, `static_entry_cause` and
+/// `are_several` call it.
 fn other_port(set: PortSet, own: u8) -> Option<u8> {
     for port in 1..17u8 {
         if port != own && set.has(port) {

@@ -156,8 +156,8 @@ fn closing_time<A: Allocator + Copy>(gate: &GatePlan<A>) -> Option<u64> {
     }
 }
 
-/// Returns the number of the first protected or grouped filter that uses stream gate `gate`, or `None`. `find_gates` and `is_decision` call
-/// it.
+/// Returns the number of the first protected or grouped filter that uses stream gate `gate`. `None` if no protected or grouped filter does.
+/// `find_gates` and `is_decision` call it.
 fn tested_filter_with_gate(filters: &[(u32, FilterPlan)], gate: u32) -> Option<u32>
     ensures { result ≡ spec.tested_with gate filters.now }
 {
@@ -292,7 +292,8 @@ fn covers_filter(one: &FilterPlan, other: &FilterPlan) -> bool
     covers_handle(one.handle, other.handle) && covers_priority(one.priority, other.priority)
 }
 
-/// Returns the number of the first filter below `number` that matches each frame of `filter`, or `None`. `find_hidden_filter` calls it.
+/// Returns the number of the first filter below `number` that matches each frame of `filter`. `None` if no filter does.
+/// `find_hidden_filter` calls it.
 fn first_hiding_filter(
     filters: &[(u32, FilterPlan)],
     number: u32,
@@ -319,8 +320,8 @@ fn takes_value(own: Option<u8>, priority: u8) -> bool
     }
 }
 
-/// Returns the number of the first filter below `number` that matches each frame of `filter` with priority `priority`, or `None`.
-/// `is_priority_taken` and `taking_filters` call it.
+/// Returns the number of the first filter below `number` that matches each frame of `filter` with priority `priority`. `None` if no filter
+/// does. `is_priority_taken` and `taking_filters` call it.
 fn taking_filter(
     filters: &[(u32, FilterPlan)],
     number: u32,
@@ -417,7 +418,8 @@ fn find_no_length(
     }
 }
 
-/// Returns the first octet limit of an open entry that is less than `sdu` octets, or `None`. `low_schedule_limit` calls it.
+/// Returns the first octet limit of an open entry that is less than `sdu` octets. `None` if no limit is less. `low_schedule_limit` calls
+/// it.
 fn first_low_limit(entries: &[(GateEntry, u64)], sdu: u32) -> Option<u32>
     ensures { IfSome result (λ octets. octets < sdu) }
 {
@@ -433,8 +435,8 @@ fn first_low_limit(entries: &[(GateEntry, u64)], sdu: u32) -> Option<u32>
     None
 }
 
-/// Returns the first octet limit of a stream gate's open entries that is less than `sdu` octets, or `None`. The old list comes before the
-/// new list. `low_gate_limit` calls it.
+/// Returns the first octet limit of a stream gate's open entries that is less than `sdu` octets. `None` if no limit is less. The old list
+/// comes before the new list. `low_gate_limit` calls it.
 fn low_schedule_limit<A: Allocator + Copy>(schedule: &Schedule<A>, sdu: u32) -> Option<u32>
     ensures { IfSome result (λ octets. octets < sdu) }
 {
