@@ -333,7 +333,7 @@ fn network_run_job(
     })
 }
 
-/// Returns the value that `clap` found for argument or option `name`, or `None` if it is absent. `wire_job`, `network_job` and others call
+/// Returns the value that `clap` found for argument or option `name`, or `None` if it is absent. `wire_job`, `network_job` and 8 more call
 /// it.
 pub(crate) fn argument_value<'a>(values: &ArgMatches<'a>, name: &str) -> Option<&'a str>
     ensures { option_map (λ s. s.now) result ≡ first_of name.now (rows_of (found_of values.now)) }
@@ -341,7 +341,7 @@ pub(crate) fn argument_value<'a>(values: &ArgMatches<'a>, name: &str) -> Option<
     values.get_str(name)
 }
 
-/// Copies the value of argument `name`. Fails with `Words` if it is missing. `wire_job`, `check_job` and others call it.
+/// Copies the value of argument `name`. Fails with `Words` if it is missing. `wire_job`, `check_job` and 5 more call it.
 fn required_text(alloc: Global, values: &ArgMatches, name: &str) -> Result<String, ArgumentsFault>
     ensures value { IfOk result (λ t. first_of name.now (rows_of (found_of values.now)) ≡ Some (string_bytes t)) }
     ensures none { result ≡ Err ArgumentsFault.Words → first_of name.now (rows_of (found_of values.now)) ≡ None }
@@ -355,7 +355,7 @@ fn required_text(alloc: Global, values: &ArgMatches, name: &str) -> Result<Strin
     }
 }
 
-/// Copies the value of argument `name`. Returns `None` if it is absent. `run_job`, `bounds_job` and others call it.
+/// Copies the value of argument `name`. Returns `None` if it is absent. `run_job`, `bounds_job` and 3 more call it.
 pub(crate) fn optional_text(
     alloc: Global,
     values: &ArgMatches,
@@ -374,7 +374,7 @@ pub(crate) fn optional_text(
 }
 
 /// Returns the fault of arguments that `clap` refuses: `NoMemory` if memory ran out, otherwise `Words`. `parse_job`,
-/// `parse_picture_request` and others call it.
+/// `parse_picture_request` and 2 more call it.
 pub(crate) fn argument_fault(error: &Error) -> ArgumentsFault
     ensures { result ≡ fault_of_kind (kind_of error.now) }
 {

@@ -196,7 +196,7 @@ fn optional_time(values: &ArgMatches, name: &str) -> Option<Option<u64>>
     }
 }
 
-/// Returns whether `from` is before `to`. Returns true if one of them is absent. `read_picture_options` calls it.
+/// Returns whether the time `from` is before `to`, both in ns. Returns true if one of them is absent. `read_picture_options` calls it.
 fn are_in_order(from: Option<u64>, to: Option<u64>) -> bool
     ensures order { IsTrue result → AreInOrder from to }
     ensures given { result ≡ false → from ≢ None }

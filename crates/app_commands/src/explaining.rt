@@ -49,7 +49,9 @@ pub fn explain_file_cause(alloc: Global, path: &str, cause: Cause) -> Option<Str
 }
 
 /// Explains why the plan at `path` with the contents `text` is refused, or why its file failed. Returns `None` for other failures, or if
-/// memory runs out. `explain_run_fault` and functions of `app_networks` call it.
+/// memory runs out.
+///
+/// `explain_run_fault`, `explain_bridge_plan` of `app_networks` and 3 more call it.
 pub fn explain_plan_fault(
     alloc: Global,
     path: &str,

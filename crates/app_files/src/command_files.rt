@@ -166,7 +166,7 @@ impl<'a, H: AllocGlobal + Files> CommandFiles<'a, H> {
     }
 
     /// Opens a file for writing, or creates it. Its contents remain until the first write. Refuses a file in use. `create_new`,
-    /// `create_captures` and functions of `app_commands` call it.
+    /// `write_picture_file` of `app_commands` and 2 more call it.
     pub fn create(&self, path: &str) -> Result<Output<H::File>, FileFault>
         ensures { IfErr result (IsOfPath Writing path.now) }
     {

@@ -9,7 +9,7 @@ use bridge_limits::NoMemory;
 use std::alloc::{Allocator, Global};
 
 /// Returns the path of a port's capture: the folder, `/`, the port number in decimal, `.pcap`. `CommandFiles::note_captures`,
-/// `create_captures` and functions of `app_commands` and `app_networks` call it.
+/// `explain_stopped_run` of `app_commands` and 6 more call it.
 pub fn capture_path<A: Allocator + Copy>(
     alloc: A,
     folder: &str,

@@ -16,7 +16,7 @@ use std::io::Write;
 use std::rt::Files;
 
 /// Returns the path of a bridge's folder: the folder `name` in the input or output folder `folder`. `read_inputs_of_plans`, `input_folders`
-/// and others call it.
+/// and 2 more call it.
 pub(crate) fn bridge_folder(alloc: Global, folder: &str, name: &str) -> Result<String, NoMemory>
     ensures { IfOk result (λ path. string_bytes path ≡ folder_path folder.now name.now) }
 {

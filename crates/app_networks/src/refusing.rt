@@ -33,7 +33,7 @@ pub(crate) fn bridge_commands_fault(alloc: Global, name: &str, fault: PlanFault)
 }
 
 /// Returns the name of the bridge with index `bridge`, from 0, or an empty text if it is missing. `read_inputs_of_plans`, `hop_prefix` and
-/// others call it.
+/// 4 more call it.
 pub(crate) fn bridge_name(bridges: &[BridgeRow<Global>], bridge: usize) -> &str
     ensures { result.now ≡ bridge_name bridges.now bridge }
 {

@@ -63,8 +63,8 @@ pub(crate) fn last_fit<A: Allocator + Copy>(
     None
 }
 
-/// Returns the number of frames, at most `most`, that leave one after another from `start` on in one window. A frame fits at `start`.
-/// `frames_end`, `repeating_round` and `frames_duration` call it.
+/// Returns the number of frames of `occ` ns, at most `most`, that leave in one window, one after another from `start` ns on. A frame fits
+/// at `start`. `frames_end`, `repeating_round` and `frames_duration` call it.
 fn window_frames<A: Allocator + Copy>(
     list: &CyclicList<u8, A>,
     class: u8,

@@ -126,8 +126,8 @@ fn given_priorities<A: Allocator + Copy>(schedule: &Schedule<A>, priority: Optio
     priorities
 }
 
-/// Returns the stream gate with number `number`; `None` if the list lacks it. `reached_priorities` and functions of `bridge_bounds`,
-/// `bridge_groups`, `net_latency` and other crates call it.
+/// Returns the stream gate with number `number`; `None` if the list lacks it. `reached_priorities`, `is_coarse` of `bridge_bounds` and many
+/// more call it.
 pub fn find_gate<A: Allocator + Copy>(
     gates: &[(u32, GatePlan<A>)],
     number: u32,
@@ -174,8 +174,8 @@ fn reached_priorities<A: Allocator + Copy>(plan: &Plan<A>, filter: &FilterPlan) 
     }
 }
 
-/// Returns the reach of `filter`, in one pass through the plan's streams. `test_filter`, `can_wait` and functions of `bridge_groups`,
-/// `net_check`, `net_latency` and other crates call it.
+/// Returns the reach of `filter`, in one pass through the plan's streams. `test_filter`, `plan_reaches` of `bridge_groups` and 9 more call
+/// it.
 pub fn filter_reach<A: Allocator + Copy>(plan: &Plan<A>, filter: &FilterPlan) -> Reach
     ensures { result ≡ reached.filter_reach plan.now filter.now }
 {

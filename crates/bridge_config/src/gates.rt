@@ -73,8 +73,10 @@ fn has_only_gate_entry_keys(key: Field, table: &Table) -> bool
     has_allowed_entry_keys(get_value(table, key.key()), &GATE_ENTRY_KEYS)
 }
 
-/// Whether a `[[gate]]` table and the entries of its lists have only allowed keys; otherwise its fault is `UnknownKey`. `read_gate` calls
-/// it.
+/// Whether a `[[gate]]` table and the entries of its lists have only allowed keys; otherwise its fault is `UnknownKey`. `change` is the
+/// time of the schedule change in ns, if the plan has one.
+///
+/// `read_gate` calls it.
 fn has_gate_keys(change: Option<u64>, table: &Table) -> bool
     ensures { result ≡ sections.has_gate_keys change (table_view table.now) }
 {
@@ -161,8 +163,10 @@ fn read_gate_lists<A: Allocator + Copy>(
     Ok(gate_schedule(old, change, new))
 }
 
-/// Reads the lists of a stream gate. Returns `None` without a list, and after an earlier fault. If reading fails, stores the fault and
-/// returns `None`. `read_gate` calls it.
+/// Reads the lists of a stream gate. `change` is the time of the schedule change in ns, if the plan has one. Returns `None` if the gate has
+/// no list, and after an earlier fault.
+///
+/// If reading fails, stores the fault and returns `None`. `read_gate` calls it.
 fn take_gate_lists<A: Allocator + Copy>(
     first: &mut FirstFault,
     alloc: A,

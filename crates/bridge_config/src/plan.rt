@@ -120,8 +120,8 @@ impl<A: Allocator + Copy> Plan<A> {
         &self.streams
     }
 
-    /// Returns the stream gates with their numbers, in file order. `CommandTargets::has` and functions of `bridge_bounds`, `bridge_check`,
-    /// `bridge_groups` and other crates call it.
+    /// Returns the stream gates with their numbers, in file order. `CommandTargets::has`, `is_coarse` of `bridge_bounds` and many more call
+    /// it.
     pub fn gates(&self) -> &[(u32, GatePlan<A>)]
         ensures gates { result.now ≡ self.now.gates }
         ensures rules { rules.IsPlan self.now }
@@ -129,8 +129,8 @@ impl<A: Allocator + Copy> Plan<A> {
         &self.gates
     }
 
-    /// Returns the flow meters with their numbers, in file order. `CommandTargets::has` and functions of `bridge_groups`, `bridge_relay`
-    /// and `show_lint` call it.
+    /// Returns the flow meters with their numbers, in file order. `CommandTargets::has`, `committed_tokens` of `bridge_groups` and 5 more
+    /// call it.
     pub fn meters(&self) -> &[(u32, MeterPlan)]
         ensures meters { result.now ≡ self.now.meters }
         ensures rules { rules.IsPlan self.now }
@@ -138,8 +138,8 @@ impl<A: Allocator + Copy> Plan<A> {
         &self.meters
     }
 
-    /// Returns the stream filters with their numbers, in file order. `CommandTargets::has` and functions of `app_commands`, `app_failure`,
-    /// `bridge_bounds` and other crates call it.
+    /// Returns the stream filters with their numbers, in file order. `CommandTargets::has`, `unprotected_warning` of `app_commands` and
+    /// many more call it.
     pub fn filters(&self) -> &[(u32, FilterPlan)]
         ensures filters { result.now ≡ self.now.filters }
         ensures rules { rules.IsPlan self.now }

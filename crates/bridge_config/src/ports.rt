@@ -87,7 +87,9 @@ fn has_only_port_entry_keys(key: Field, table: &Table) -> bool
     has_allowed_entry_keys(get_value(table, key.key()), &PORT_ENTRY_KEYS)
 }
 
-/// Whether a `[[port]]` table and the entries of its lists have only allowed keys; otherwise its fault is `UnknownKey`.
+/// Whether a `[[port]]` table and the entries of its lists have only allowed keys; otherwise its fault is `UnknownKey`. `change` is the
+/// time of the schedule change in ns, if the plan has one.
+///
 /// `read_port_by_lookup` calls it.
 fn has_port_keys(change: Option<u64>, table: &Table) -> bool
     ensures { result ≡ sections.has_port_keys change (table_view table.now) }
@@ -194,8 +196,10 @@ fn read_port_lists<A: Allocator + Copy>(
     Ok(port_lists(old, change, new))
 }
 
-/// Reads the gate control lists of a port. Returns `None` without a list, and after an earlier fault. If reading fails, stores the fault
-/// and returns `None`. `read_port_by_lookup` calls it.
+/// Reads the gate control lists of a port. `change` is the time of the schedule change in ns, if the plan has one.
+///
+/// Returns `None` if the port has no list, and after an earlier fault. If reading fails, stores the fault and returns `None`.
+/// `read_port_by_lookup` calls it.
 fn take_port_lists<A: Allocator + Copy>(
     first: &mut FirstFault,
     alloc: A,

@@ -10,8 +10,7 @@ use crate::timeline::Timeline;
 /// End of the times, in ns, at which a search for a fit may begin. So each search ends before `END_OF_TURNS`.
 pub const END_OF_SEARCHES: u64 = 9_000_000_000_000_000_000;
 
-/// Whether a gate state opens `class`: bit c of the state opens class c. `first_fit`, `longest_open_time` and functions of `bridge_bounds`,
-/// `bridge_check`, `bridge_groups` and other crates call it.
+/// Whether a gate state opens `class`: bit c of the state opens class c. `first_fit`, `last_fit` of `bridge_bounds` and many more call it.
 pub fn is_open(state: u8, class: u8) -> bool
     requires { class < 8 }
     ensures { result ≡ moments.is_open state class }

@@ -234,8 +234,8 @@ impl<'a, G: Agenda + Drop, A: Allocator + Copy> Relay<'a, G, A> {
         self.earliest = t;
     }
 
-    /// Returns egress ports and filter input of the frame `octets`, which arrived on port `port` at time `at` with length `len`. If the
-    /// frame isn't forwarded, returns the reason. `arrive` calls it.
+    /// Returns egress ports and filter input of the frame `octets`, which arrived on port `port` at time `at` in ns with length `len`. If
+    /// the frame isn't forwarded, returns the reason. `arrive` calls it.
     #[inline(always)]
     fn find_destination(&self, at: u64, port: u8, octets: &[u8], len: u32) -> Destination
         requires from { 1 ≤ port }

@@ -26,8 +26,7 @@ pub struct InstanceTable<'t> {
 }
 
 impl<'t> InstanceTable<'t> {
-    /// Returns the location of `key`, for faults. The methods of `InstanceTable` that read keys call it, and `read_list_parts` of
-    /// `bridge_config`.
+    /// Returns the location of `key`, for faults. `read_required`, `read_list_parts` of `bridge_config` and 4 more call it.
     pub fn locate_key(&self, key: Field) -> KeyLocation
         ensures { result ≡ record { section = self.now.section; index = self.now.index; field = key } }
     {

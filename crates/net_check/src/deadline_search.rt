@@ -113,8 +113,8 @@ fn is_searched(
     course.passes && can_meet(alloc, &route, stream.deadline())
 }
 
-/// Returns whether a stream would meet its deadline if no frame waited for its transmission. Returns true without a deadline, and false if
-/// the times are unknown. `is_searched` calls it.
+/// Returns whether a stream would meet its deadline, in ns, if no frame waited for its transmission. Returns true without a deadline, and
+/// false if the times are unknown. `is_searched` calls it.
 fn can_meet(alloc: Global, route: &StreamRoute<'_>, deadline: Option<u64>) -> bool
     requires placed { All (λ v. All HasValidPort v.items) route.now.bounds.now }
     requires talker { IsTalker route.now.talker }

@@ -242,7 +242,7 @@ fn is_absolute(path: &str) -> bool
 /// Returns the path of the plan file `file`, which a network file at `path` names. A relative path counts from the network file's folder,
 /// so both can be moved together.
 ///
-/// `explain_plan_path`, `network_paths`, `read_plan` and functions of `app_networks` call it.
+/// `explain_plan_path`, `plan_path` of `app_networks` and 2 more call it.
 pub fn sibling_path(alloc: Global, path: &str, file: &str) -> Result<String, NoMemory>
     ensures { IfOk result (λ place. string_bytes place ≡ beside path.now file.now) }
 {

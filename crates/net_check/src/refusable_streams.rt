@@ -146,8 +146,8 @@ pub(crate) fn phases_after_link(done: Phases, delay: u64, period: u64) -> (Phase
     (phases, whole)
 }
 
-/// Returns the traffic of a talker if its frames arrive in the phases `from` to `to`. Returns `None` if the phases don't lie in one period.
-/// `hop_traffic` and `times_in_queue` call it.
+/// Returns the traffic of a talker if its frames arrive in the phases `from` to `to`, in ns. Returns `None` if the phases don't lie in one
+/// period. `hop_traffic` and `times_in_queue` call it.
 pub(crate) fn traffic_with_phases(talker: &Talker, from: u64, to: u64) -> Option<Traffic>
     requires { IsTalker talker.now }
     ensures { IfSome result IsTraffic }

@@ -15,7 +15,7 @@ use toml::{Table, Value};
 /// Reads the value of the required key at `place` from its table. `kind` defines the allowed values. Returns the fault `Missing` if the key
 /// is absent. Allocates no memory.
 ///
-/// `read_rate`, `read_count` and others call it.
+/// `read_rate`, `read_count` and 4 more call it.
 #[tactic(auto, unfolding(crate::specs::Keys::read_required))]
 pub fn read_required<K: ValueKind>(
     table: &Table,

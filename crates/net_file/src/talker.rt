@@ -41,7 +41,7 @@ fn is_present(value: Option<&Value>) -> bool
 }
 
 /// Returns whether a table has at least one of these keys. A stream with such a key has a talker, and a traffic row a limit. `is_limited`,
-/// `has_limited_keys` and others call it.
+/// `has_limited_keys` and 2 more call it.
 pub(crate) fn has_any_key(table: &Table, keys: &[NetField]) -> bool
     ensures { result ≡ sections.has_any_key keys.now (table_view table.now) }
 {

@@ -48,7 +48,7 @@ impl TalkerRow {
     }
 }
 
-/// Returns the location of a key of row `index`, from 1, for a fault. `read_rate`, `read_count` and others call it.
+/// Returns the location of a key of row `index`, from 1, for a fault. `read_rate`, `read_count` and 2 more call it.
 pub(crate) fn row_key(index: u32, field: NetField) -> NetKeyLocation
     ensures { result ≡ record { section = the_section.Traffic; index = index; field = field } }
 {

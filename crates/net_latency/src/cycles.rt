@@ -75,7 +75,7 @@ fn traffic_text<'a>(
 }
 
 /// Appends the path of the traffic file, and the position of the key `field` in row `index`, from 1. `explain_grouped_filter`,
-/// `explain_limited_row` and others call it.
+/// `explain_limited_row` and 2 more call it.
 fn put_row_position(
     said: &mut TextBuilder<Global>,
     asked: TrafficText<'_>,
@@ -248,8 +248,8 @@ struct Cycles<'a> {
 }
 
 impl<'a> Cycles<'a> {
-    /// Appends a sentence with the cycle time `cycle` of gate or port (`what`) `number`, and whether the period is a multiple of this time.
-    /// Updates `common`. `put_gate` and `put_port_cycles` call it.
+    /// Appends a sentence with the cycle time `cycle`, in ns, of gate or port `number`; `what` says which. Says whether the period is a
+    /// multiple of this time. Updates `common`. `put_gate` and `put_port_cycles` call it.
     fn put_cycle(&mut self, said: &mut TextBuilder<Global>, what: &str, number: u32, cycle: u64) {
         let common = self.common;
         self.common = if common == 0 || cycle == 0 {

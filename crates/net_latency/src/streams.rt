@@ -67,8 +67,8 @@ fn filter_bound(filter: u32, rows: &[QueueBound]) -> u64
     greatest
 }
 
-/// Returns the delay bounds of the bridge with index `bridge`. Returns an empty list if the bridge is missing. `hop_bound`, `put_queues`
-/// and functions of `net_check` call it.
+/// Returns the delay bounds of the bridge with index `bridge`. Returns an empty list if the bridge is missing. `hop_bound`, `put_hop_times`
+/// of `net_check` and 3 more call it.
 pub fn bounds_of_bridge<'a, A: Allocator + Copy>(
     bounds: &'a [Vec<QueueBound, A>],
     bridge: u16,
@@ -223,7 +223,7 @@ fn put_course<B: Allocator>(text: &mut TextBuilder<B>, course: Option<StreamLate
     put_delays(text, course.worst, course.best, Some(course.phases));
 }
 
-/// Writes the delays of a stream if they are known, and its bound. `put_stream` calls it.
+/// Writes the delays of a stream if they are known, and its bound in ns. `put_stream` calls it.
 fn put_latency<B: Allocator>(text: &mut TextBuilder<B>, course: Option<StreamLatency>, bound: u128)
     ensures { HasGrown text.old (spec.latency_words course bound) text.new }
 {
@@ -274,7 +274,7 @@ fn is_passing(talker: Option<Talker>, course: Option<StreamLatency>) -> bool
     }
 }
 
-/// Returns whether each frame of a stream passes and meets its deadline. If the delays are unknown, the bound is compared with the
+/// Returns whether each frame of a stream passes and meets the deadline, in ns. If the delays are unknown, the bound is compared with the
 /// deadline. `put_stream` calls it.
 fn is_in_time(
     passes: bool,

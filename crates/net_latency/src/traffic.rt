@@ -18,8 +18,8 @@ use net_file::{
 };
 use std::alloc::Allocator;
 
-/// Returns whether a period is a multiple of each cycle time of a stream gate: of the old and of the new list. Returns true for a fixed
-/// gate, which has no cycle.
+/// Returns whether a period, in ns, is a multiple of each cycle time of a stream gate: of the old and of the new list. Returns true for a
+/// fixed gate, which has no cycle.
 ///
 /// `suits_gate` calls it.
 fn suits_schedule<A: Allocator + Copy>(period: u64, schedule: &Schedule<A>) -> bool
@@ -35,8 +35,8 @@ fn suits_schedule<A: Allocator + Copy>(period: u64, schedule: &Schedule<A>) -> b
     }
 }
 
-/// Returns whether a period is a multiple of each cycle time of a port: of the old and of the new gate control list. Returns true without a
-/// list. `suits_port` calls it.
+/// Returns whether a period in ns is a multiple of each cycle time of a port: of the old and of the new gate control list. Returns true
+/// without a list. `suits_port` calls it.
 fn suits_lists<A: Allocator + Copy>(period: u64, lists: &Option<Egress<A>>) -> bool
     ensures { result ≡ spec.suits_lists period lists.now }
 {
@@ -50,8 +50,8 @@ fn suits_lists<A: Allocator + Copy>(period: u64, lists: &Option<Egress<A>>) -> b
     }
 }
 
-/// Returns whether a period is a multiple of the cycle times of the stream gate `gate`. Returns true if the gate is missing. `suits` calls
-/// it.
+/// Returns whether a period, in ns, is a multiple of the cycle times of the stream gate `gate`. Returns true if the gate is missing.
+/// `suits` calls it.
 fn suits_gate<A: Allocator + Copy>(plan: &Plan<A>, gate: u32, period: u64) -> bool
     ensures { result ≡ spec.suits_gate period (lookup (nat_eq gate) plan.now.gates) }
 {
@@ -89,7 +89,8 @@ pub(crate) fn can_wait_at_port<A: Allocator + Copy>(
     found
 }
 
-/// Returns whether a period is a multiple of the cycle times of a port. Returns true if the port is missing. `has_misfit_at_port` calls it.
+/// Returns whether a period, in ns, is a multiple of the cycle times of a port. Returns true if the port is missing. `has_misfit_at_port`
+/// calls it.
 fn suits_port<A: Allocator + Copy>(period: u64, port: Option<&PortPlan<A>>) -> bool
     ensures { result ≡ spec.suits_port period (option_map (λ p. p.now) port.entry) }
 {
@@ -99,8 +100,8 @@ fn suits_port<A: Allocator + Copy>(period: u64, port: Option<&PortPlan<A>>) -> b
     }
 }
 
-/// Returns whether the filter has a reachable queue at `port`, and the period isn't a multiple of the port's cycle times. `has_misfit`
-/// calls it.
+/// Returns whether the filter has a reachable queue at `port`, and the period, in ns, isn't a multiple of the port's cycle times.
+/// `has_misfit` calls it.
 fn has_misfit_at_port<A: Allocator + Copy>(
     plan: &Plan<A>,
     filter: &FilterPlan,
@@ -118,8 +119,8 @@ fn has_misfit_at_port<A: Allocator + Copy>(
     comes && !suits
 }
 
-/// Returns whether the filter has a reachable queue at some port, and the period isn't a multiple of this port's cycle times. `suits` calls
-/// it.
+/// Returns whether the filter has a reachable queue at some port, and the period, in ns, isn't a multiple of this port's cycle times.
+/// `suits` calls it.
 fn has_misfit<A: Allocator + Copy>(
     plan: &Plan<A>,
     filter: &FilterPlan,
@@ -137,8 +138,8 @@ fn has_misfit<A: Allocator + Copy>(
     found
 }
 
-/// Returns whether a period is a multiple of each cycle time on a filter's route. The route has its stream gate, and each port with a
-/// reachable queue. `suits_filter` and `row_fault` call it.
+/// Returns whether a period, in ns, is a multiple of each cycle time on a filter's route. The route has its stream gate, and each port with
+/// a reachable queue. `suits_filter` and `row_fault` call it.
 pub(crate) fn suits<A: Allocator + Copy>(plan: &Plan<A>, filter: &FilterPlan, period: u64) -> bool
     ensures { result ≡ spec.suits plan.now filter.now period }
 {

@@ -51,8 +51,8 @@ pub(crate) struct TestedNetwork<'a, A: Allocator + Copy> {
     pub streams: &'a [Vec<StreamHop, A>],
 }
 
-/// Returns the plan of the bridge with index `place`, from 0. Returns `None` if the network has no such bridge. Tests and searches here
-/// call it, and functions of `net_check` and `net_latency`.
+/// Returns the plan of the bridge with index `place`, from 0. Returns `None` if the network has no such bridge. `is_received_by_next_hop`,
+/// `hop_sdu` of `net_check` and 8 more call it.
 pub fn find_plan<'a, A: Allocator + Copy>(
     plans: &'a [Accepted<A>],
     place: u16,
@@ -167,7 +167,7 @@ fn is_repeated_hop<A: Allocator + Copy>(
 /// Returns the stream handle of the protected filter with number `number`. Returns `None` if the filter is missing, unprotected or names no
 /// handle.
 ///
-/// Tests and searches here call it, and a function of `net_latency`.
+/// `receives_every_frame`, `can_others_enter` of `net_latency` and 2 more call it.
 pub fn protected_handle(filters: &[(u32, FilterPlan)], number: u32) -> Option<u32>
     ensures { result ≡ spec.protected_handle filters.now number }
 {

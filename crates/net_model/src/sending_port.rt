@@ -64,7 +64,7 @@ pub(crate) fn accepts_tag(kind: TagKind, tag: Option<Tag>) -> bool
 }
 
 /// Returns the VLAN in which `port` classifies a frame with tag `tag`, which is `None` for an untagged frame. `is_forwarded`, `gives_all`
-/// and others call it.
+/// and 3 more call it.
 pub(crate) fn classified_vid<A: Allocator + Copy>(port: &PortPlan<A>, tag: Option<Tag>) -> u16
     ensures { result ≡ classified.frame_vid port.now tag }
 {

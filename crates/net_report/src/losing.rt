@@ -128,7 +128,7 @@ fn count_late(deadline: u64, delays: &[u64]) -> usize
     delays.iter().filter(|delay| deadline < **delay).count()
 }
 
-/// Writes the line of a stream whose deadline a copy missed. `put_late_if` calls it.
+/// Writes the `late:` line of a stream whose deadline, in ns, a copy missed. `put_late_if` calls it.
 fn put_late<A: Allocator>(text: &mut TextBuilder<A>, stream: &str, delays: &[u64], deadline: u64)
     ensures { HasGrown text.old (spec.late_words stream.now delays.now deadline) text.new }
 {
@@ -145,7 +145,7 @@ fn put_late<A: Allocator>(text: &mut TextBuilder<A>, stream: &str, delays: &[u64
     text.put(" ns\n");
 }
 
-/// Writes the line of a stream if it has a deadline and a copy missed it. `put_faults` calls it.
+/// Writes the `late:` line of a stream if it has a deadline, in ns, and a copy missed the deadline. `put_faults` calls it.
 fn put_late_if<A: Allocator>(
     text: &mut TextBuilder<A>,
     stream: &str,

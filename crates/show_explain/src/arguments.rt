@@ -9,7 +9,7 @@ use bridge_text::{Said, TextBuilder, fill_with_word, finish_with_path, nearest_n
 use std::alloc::Global;
 
 /// Returns the name of an option, with its `--` and without `=` and its value. Returns `None` if the argument isn't an option.
-/// `unknown_option`, `first_operand` and others call it.
+/// `unknown_option`, `first_operand` and 4 more call it.
 fn option_name(word: &str) -> Option<&str> {
     if !word.starts_with("--") || word == "--" {
         return None;

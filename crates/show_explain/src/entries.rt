@@ -164,7 +164,7 @@ fn refusal_sentence(fault: ListFault) -> &'static str {
     }
 }
 
-/// Writes why a list with this cycle and these entries is refused: fills the sentence with their values. `put_refused_list` calls it.
+/// Writes why a list with this cycle time in ns and these entries is refused. `put_refused_list` calls it.
 fn put_list_refusal(
     said: &mut Said,
     keys: ListKeys,

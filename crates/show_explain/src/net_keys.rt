@@ -11,7 +11,7 @@ use net_file::{
 };
 use toml::Value;
 
-/// Returns instance `index`, counted from 1, of a section of a network or traffic file. `put_net_place`, `put_unknown_bridge` and others
+/// Returns instance `index`, counted from 1, of a section of a network or traffic file. `put_net_place`, `put_unknown_bridge` and 3 more
 /// call it.
 pub(crate) fn net_instance<'a>(
     document: Document<'a>,
@@ -28,7 +28,7 @@ pub(crate) fn net_instance<'a>(
 /// Writes the position of instance `index`, from 1, of a section, or of its key `key`, and the instance's name, ends or filter.
 /// Explanations in `network` begin with this position.
 ///
-/// `put_net_fault`, `put_stray_key` and others call it.
+/// `put_net_fault`, `put_stray_key` and 3 more call it.
 pub(crate) fn put_net_place(
     said: &mut Said,
     document: Document<'_>,

@@ -51,8 +51,8 @@ pub struct Hypercycle {
 }
 
 impl Hypercycle {
-    /// Computes the hypercycle of a plan's lists: pictures of plans show this time by default. `idle_change` and functions of
-    /// `app_commands` and `show_picture` call it.
+    /// Computes the hypercycle of a plan's lists: pictures of plans show this time by default. `idle_change`, `put_late` of `app_commands`
+    /// and 2 more call it.
     pub fn from_plan<A: Allocator + Copy>(plan: &Plan<A>) -> Hypercycle {
         let mut times = Hypercycle {
             length: 0,
