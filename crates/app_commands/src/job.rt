@@ -69,7 +69,8 @@ pub(crate) fn run_with_outputs<H: AllocGlobal + Clock + Eprint + Files>(
     told
 }
 
-/// Writes the requested tables, then the requested picture of a run, and returns the run's lines. `run_with_outputs` calls it.
+/// Writes the requested tables, then the requested picture of a run, and returns the run's lines. Fails if a table or the picture can't be
+/// written. `run_with_outputs` calls it.
 fn write_outputs<H: AllocGlobal + Files>(
     files: &mut CommandFiles<'_, H>,
     accepted: &Accepted<Global>,
@@ -92,7 +93,8 @@ fn write_outputs<H: AllocGlobal + Files>(
     write_run_picture(files, accepted, outcome, job, flags)
 }
 
-/// Writes the requested picture of a run, if any, and returns the run's lines. `write_outputs` calls it.
+/// Writes the requested picture of a run, if any, and returns the run's lines. Fails if the picture can't be written. `write_outputs` calls
+/// it.
 fn write_run_picture<H: AllocGlobal + Files>(
     files: &mut CommandFiles<'_, H>,
     accepted: &Accepted<Global>,

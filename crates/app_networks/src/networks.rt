@@ -133,7 +133,8 @@ fn rounds_line(alloc: Global, rounds: u32) -> String {
     }
 }
 
-/// Draws a network into `file`, or to standard output for `-`, and returns the output of `picture`. `draw` calls it.
+/// Draws a network into `file`, or to standard output for `-`, and returns the output of `picture`. Fails if the network is refused, or if
+/// a file fails. `draw` calls it.
 pub(crate) fn draw_network<H: AllocGlobal + Files>(
     files: &mut CommandFiles<'_, H>,
     path: &str,

@@ -85,7 +85,9 @@ fn has_gate_keys(change: Option<u64>, table: &Table) -> bool
         && has_only_gate_entry_keys(Field::NextEntries, table)
 }
 
-/// Reads the parts of one of a stream gate's two lists. `keys` are the keys of the first list, or of the list after the schedule change.
+/// Reads the parts of one of a stream gate's two lists. `keys` are the keys of the first list, or of the list after the schedule change. If
+/// a list is refused, returns its fault.
+///
 /// `read_gate_lists` calls it for each list.
 fn read_gate_parts<A: Allocator + Copy>(
     alloc: A,
@@ -143,8 +145,8 @@ fn gate_schedule<A: Allocator + Copy>(
     }
 }
 
-/// Reads the lists of a stream gate; `None` if the gate has no list. `change` is the time of the schedule change in ns. `take_gate_lists`
-/// calls it.
+/// Reads the lists of a stream gate; `None` if the gate has no list. `change` is the time of the schedule change in ns. If a list is
+/// refused, returns its fault. `take_gate_lists` calls it.
 fn read_gate_lists<A: Allocator + Copy>(
     alloc: A,
     change: Option<u64>,
@@ -229,7 +231,9 @@ fn schedule_or_fixed<A: Allocator + Copy>(
     }
 }
 
-/// Reads a stream gate and its number, which none of the gates before it may have. `change` is the time of the schedule change in ns.
+/// Reads a stream gate and its number, which none of the gates before it may have. `change` is the time of the schedule change in ns. If
+/// the gate is refused, returns its fault.
+///
 /// `GateSection::read` calls it.
 fn read_gate<A: Allocator + Copy>(
     alloc: A,

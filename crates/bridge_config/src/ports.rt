@@ -121,7 +121,9 @@ impl<'a, A: Allocator + Copy> NumberLookup for PortNumbers<'a, A> {
     }
 }
 
-/// Reads the parts of one of a port's two lists. `keys` are the keys of the first list, or of the list after the schedule change.
+/// Reads the parts of one of a port's two lists. `keys` are the keys of the first list, or of the list after the schedule change. If a list
+/// is refused, returns its fault.
+///
 /// `read_port_lists` calls it for each list.
 fn read_port_parts<A: Allocator + Copy>(
     alloc: A,
@@ -177,7 +179,9 @@ fn port_lists<A: Allocator + Copy>(
     }
 }
 
-/// Reads the gate control lists of a port; `None` if the port has no list. `change` is the time of the schedule change in ns.
+/// Reads the gate control lists of a port; `None` if the port has no list. `change` is the time of the schedule change in ns. If a list is
+/// refused, returns its fault.
+///
 /// `take_port_lists` calls it.
 fn read_port_lists<A: Allocator + Copy>(
     alloc: A,
@@ -225,7 +229,7 @@ fn take_port_lists<A: Allocator + Copy>(
 }
 
 /// Reads a port, whose number must not be in `ports`. `read_port` passes the earlier ports. `change` is the time of the schedule change in
-/// ns.
+/// ns. If the port is refused, returns its fault.
 fn read_port_by_lookup<A: Allocator + Copy, P: NumberLookup + Copy>(
     alloc: A,
     change: Option<u64>,
@@ -269,8 +273,8 @@ fn read_port_by_lookup<A: Allocator + Copy, P: NumberLookup + Copy>(
     })
 }
 
-/// Reads a port, whose number none of the ports before it may have. `change` is the time of the schedule change in ns. `PortSection::read`
-/// calls it.
+/// Reads a port, whose number none of the ports before it may have. `change` is the time of the schedule change in ns. If the port is
+/// refused, returns its fault. `PortSection::read` calls it.
 fn read_port<A: Allocator + Copy>(
     alloc: A,
     change: Option<u64>,

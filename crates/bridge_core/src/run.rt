@@ -82,7 +82,9 @@ fn take_frame<A: Allocator + Copy>(lanes: &mut [CaptureReader<A>], place: usize)
 }
 
 /// Reads the next record of the capture with index `place`, after `take_frame` has removed a frame. The record's octets use the buffer
-/// `spare`. `process_frame` calls it.
+/// `spare`.
+///
+/// Fails if the record is refused, the source fails or memory runs out. `process_frame` calls it.
 fn read_next_ahead<R: ByteSource, A: Allocator + Copy>(
     spare: Vec<u8, A>,
     place: usize,
@@ -177,8 +179,8 @@ fn is_earlier(time: u64, until: Option<u64>) -> bool
     }
 }
 
-/// Returns the index of the reader with the earliest frame, if this frame is before `until`; otherwise `None`. Reads only the agenda, not
-/// the frames. `process_earlier_frames` calls it.
+/// Returns the index of the reader with the earliest frame, if this frame arrives before `until` ns; otherwise `None`. Reads only the
+/// agenda, not the frames. `process_earlier_frames` calls it.
 #[inline(always)]
 fn next_reader<H: Agenda, A: Allocator + Copy>(
     heads: &H,
@@ -243,7 +245,9 @@ fn process_earlier_frames<R: ByteSource, W: ByteSink, G: Agenda + Drop, A: Alloc
 }
 
 /// Handles all frames before the command's time, writes due frames to `sinks`, and clears the command's flag. Frames that arrive at the
-/// command's time are handled later. `run` calls it.
+/// command's time are handled later.
+///
+/// Fails if a capture or a sink fails, or if memory runs out. `run` calls it.
 fn process_command<R: ByteSource, W: ByteSink, G: Agenda + Drop, A: Allocator + Copy>(
     command: Command,
     relay: &mut Relay<'_, G, A>,

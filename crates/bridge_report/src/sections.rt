@@ -66,8 +66,10 @@ pub fn report<A: Allocator + Copy>(alloc: A, outcome: &Outcome<A>) -> Result<Str
     text.finish()
 }
 
-/// Writes the sections of all filters to `writer`, and returns it flushed. The only allocation is the buffer of 262,144 octets. `write_to`
-/// of `app_commands` calls it for `run` and `net`.
+/// Writes the sections of all filters to `writer`, and returns it flushed. The only allocation is the buffer of 262,144 octets. Fails if
+/// the writer fails or memory runs out.
+///
+/// `write_to` of `app_commands` calls it for `run` and `net`.
 pub fn write_report<W: Write + Drop, A: Allocator + Copy>(
     alloc: A,
     outcome: &Outcome<A>,

@@ -95,7 +95,8 @@ impl<A: Allocator + Copy> OpenQueue<A> {
     }
 
     /// Reads the next record of a capture into the place ahead, and returns its arrival time in ns; `None` at the end of the capture.
-    /// `process_frame` calls it after the frame ahead was offered.
+    ///
+    /// Fails if the record is refused, the source fails or memory runs out. `process_frame` calls it after the frame ahead was offered.
     #[inline(always)]
     pub fn read_ahead<R: ByteSource>(
         &mut self,

@@ -293,7 +293,8 @@ fn check_bridge_plan(alloc: Global, name: &str, text: &[u8]) -> Result<Accepted<
 }
 
 /// Reads the plan of a bridge of the network file at `path`. The plan's path is absolute, or relative to the folder of the network file.
-/// `push_plan` calls it.
+///
+/// Fails if the plan can't be read or is refused. `push_plan` calls it.
 pub(crate) fn read_plan<F: ReadFiles>(
     alloc: Global,
     files: &mut F,

@@ -95,7 +95,9 @@ fn read_count(index: u32, table: &Table) -> Result<FrameLimit, NetFault>
     Ok(FrameLimit::Count { frames, period })
 }
 
-/// Reads the limit of row `index`: burst and rate if the table has one of these keys, otherwise a number of frames in any period.
+/// Reads the limit of row `index`: burst and rate if the table has one of these keys, otherwise a number of frames in any period. If the
+/// limit is refused, returns its fault.
+///
 /// `read_limited_row` calls it.
 fn read_limit(index: u32, table: &Table) -> Result<FrameLimit, NetFault>
     ensures reads { Gives result (spec.read_limit index (table_view table.now)) }

@@ -201,7 +201,9 @@ fn resolve_hops<A: Allocator + Copy>(
     Ok(hops)
 }
 
-/// Returns the hops in `value`, the value of the key `hops`. Tests the kind, number and form of all items before it looks up any bridge.
+/// Returns the hops in `value`, the value of the key `hops`. Tests the kind, number and form of all items before it looks up any bridge. If
+/// the hops are refused, returns their fault.
+///
 /// `read_stream` calls it.
 fn hops_value<A: Allocator + Copy>(
     alloc: A,
@@ -246,8 +248,8 @@ fn stream_key(index: u32, field: NetField) -> NetKeyLocation
     }
 }
 
-/// Reads the key `deadline` of stream `index`: the largest allowed delay in ns. Returns `None` if the key is absent. `read_stream` calls
-/// it.
+/// Reads the key `deadline` of stream `index`: the largest allowed delay in ns. Returns `None` if the key is absent. If the deadline is
+/// refused, returns its fault. `read_stream` calls it.
 fn read_deadline(index: u32, table: &Table) -> Result<Option<u64>, NetFault>
     ensures reads { Gives result (reading.read_optional
         (record { section = the_section.Stream; index = index; field = the_field.Deadline })

@@ -79,7 +79,7 @@ pub(crate) fn hop_passes<A: Allocator + Copy>(
 
 /// Returns the delays of a route that ends at a queue with delays `x` and phases `done`.
 ///
-/// Its worst delay is the lesser of two times: the sum of worst delays, and the time from phase `from` ns to the last of `done`.
+/// The worst delay is the lesser of two: the sum of worst delays, and the time from phase `from` ns to the last of `done`.
 ///
 /// `exit_over_link` calls it.
 fn latency_at_last_queue(

@@ -35,8 +35,8 @@ fn suits_schedule<A: Allocator + Copy>(period: u64, schedule: &Schedule<A>) -> b
     }
 }
 
-/// Returns whether a period in ns is a multiple of each cycle time of a port: of the old and of the new gate control list. Returns true
-/// without a list. `suits_port` calls it.
+/// Returns whether a period in ns is a multiple of each cycle time of a port: of the old and of the new list. Returns true without a list.
+/// `suits_port` calls it.
 fn suits_lists<A: Allocator + Copy>(period: u64, lists: &Option<Egress<A>>) -> bool
     ensures { result ≡ spec.suits_lists period lists.now }
 {

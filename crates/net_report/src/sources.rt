@@ -173,8 +173,8 @@ fn resume_due_departures<'a>(
     due_departures(left, sender.from.port, sender.delay, at)
 }
 
-/// Returns a frame's source after tracing, the rest of the sender's copies to search for later frames, and the time in ns from which the
-/// rest suffices. `trace_from_sender` calls it.
+/// Returns a frame's source, the rest of the sender's copies to search for later frames, and the time in ns from which the rest suffices.
+/// `trace_from_sender` calls it.
 fn trace_frame<'a>(
     sender: Sender,
     sent: &'a [StoredDeparture],

@@ -334,7 +334,9 @@ fn assert_bridge_runs<A: Allocator + Copy>(stations: &[BridgeRun<'_, A>])
 }
 
 /// Runs round `turn`: each bridge with changed inputs runs, and each linked port gets the frames sent to it. Returns the first bridge and
-/// port whose input changed, if any. `run_network` calls it.
+/// port whose input changed, if any.
+///
+/// Fails if a bridge refuses a capture, or if memory runs out. `run_network` calls it.
 fn run_round<A: Allocator + Copy, W: RoundObserver>(
     alloc: A,
     stations: &mut [BridgeRun<'_, A>],
@@ -368,7 +370,8 @@ fn assert_network<A: Allocator + Copy>(network: &Network<A>)
 /// Runs a network in at most `rounds` rounds, until each link delivers exactly the frames that its sender sent. If an input still changes
 /// after the last round, returns `NotSettled`.
 ///
-/// `watch` gets a report before each bridge's run. `run_network_folders` of `app_networks` calls it for `net`.
+/// `watch` gets a report before each bridge's run. Fails if a bridge refuses a capture, or if memory runs out. `run_network_folders` of
+/// `app_networks` calls it for `net`.
 pub fn run_network<A: Allocator + Copy, W: RoundObserver>(
     alloc: A,
     network: &Network<A>,
@@ -405,7 +408,8 @@ pub fn run_network<A: Allocator + Copy, W: RoundObserver>(
     Err(RoundsFault::NotSettled { bridge, port })
 }
 
-/// Returns the results of the bridges after the last round, with the number of rounds. `run_network` calls it.
+/// Returns the results of the bridges after the last round, with the number of rounds. Fails only if memory runs out. `run_network` calls
+/// it.
 fn finish_bridges<A: Allocator + Copy>(
     alloc: A,
     stations: Vec<BridgeRun<'_, A>, A>,
