@@ -28,7 +28,7 @@ use std::rt::{Clock, Files};
 pub(crate) struct RunLines {
     /// Line of counts of the run.
     pub(crate) line: String,
-    /// One line for each protected filter that lost a frame or a copy, if losses are errors.
+    /// One `lost:` line for each protected filter that lost a frame or a copy, if losses are errors.
     pub(crate) lost: String,
     /// Whether losses are errors and a protected filter lost a frame or a copy.
     pub(crate) is_lossy: bool,
@@ -133,7 +133,7 @@ fn write_run_picture<H: AllocGlobal + Files>(
     })
 }
 
-/// Returns one line for each protected filter that lost a frame or a copy, if losses are errors; otherwise the empty text.
+/// Returns one `lost:` line for each protected filter that lost a frame or a copy, if losses are errors; otherwise the empty text.
 /// `write_run_picture` calls it.
 fn lost_if(alloc: Global, outcome: &Outcome<Global>, is_strict: bool) -> Result<String, NoMemory>
     ensures { IfOk result (λ lost. string_bytes lost ≡ lost_if is_strict outcome.now.filters.items) }

@@ -29,7 +29,7 @@ pub struct StrictRun {
     pub told: String,
     /// Whether warnings are errors and the plan has one.
     pub is_warned: bool,
-    /// Text for standard error about the run: one line for each protected filter with losses, if losses are errors.
+    /// Text for standard error about the run: one `lost:` line for each protected filter with losses, if losses are errors.
     pub lost: String,
     /// Whether `lost` has a line.
     pub is_lossy: bool,

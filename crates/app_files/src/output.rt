@@ -31,8 +31,8 @@ impl<F: Write + OpenFile + Drop> Output<F> {
         open_file_id(&self.file)
     }
 
-    /// Completes the output and returns the file. A file without any write is empty afterwards. A command calls it after its last write to
-    /// the file.
+    /// Completes the output and returns the file. If nothing was written, the file is empty afterwards. A command calls it after its last
+    /// write to the file.
     pub fn finish(self) -> io::Result<Output<F>>
         ensures { IfOk result (λ done. done.file ≡ self.file) }
     {

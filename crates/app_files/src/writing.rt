@@ -41,8 +41,8 @@ fn write_all<F: Write + OpenFile + Drop>(output: Output<F>, octets: &[u8]) -> io
     output.finish()
 }
 
-/// Completes the output file at `path`, and returns it. A file without any write is empty afterwards. Fails with the path and cause if the
-/// file can't be written. `write_content` calls it.
+/// Completes the output file at `path`, and returns it. If nothing was written, the file is empty afterwards. Fails with the path and cause
+/// if the file can't be written. `write_content` calls it.
 fn finish_file<F: Write + OpenFile + Drop>(
     alloc: Global,
     path: &str,
@@ -58,8 +58,8 @@ fn finish_file<F: Write + OpenFile + Drop>(
     }
 }
 
-/// Flushes and completes the output file at `path`, and returns it. A file without any write is empty afterwards. Fails with the path and
-/// cause if the file can't be written.
+/// Flushes and completes the output file at `path`, and returns it. If nothing was written, the file is empty afterwards. Fails with the
+/// path and cause if the file can't be written.
 ///
 /// `end_table` of `app_networks` calls it.
 pub fn flush_file<F: Write + OpenFile + Drop>(

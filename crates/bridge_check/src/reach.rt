@@ -59,8 +59,8 @@ fn destination_ports<A: Allocator + Copy>(plan: &Plan<A>, handle: u32) -> [bool;
     ports
 }
 
-/// Whether `entry` is open and can give a frame priority `k`: by its internal priority value, or without one by the filter's `priority`. If
-/// both are missing, it can give each priority.
+/// Whether `entry` is open and can give a frame priority `k`: by its internal priority value or, if it has none, the filter's `priority`.
+/// If both are missing, the entry can give each priority.
 ///
 /// `entries_give_priority` and `lets` call it.
 fn gives_priority(entry: &GateEntry, priority: Option<u8>, k: u8) -> bool

@@ -296,7 +296,8 @@ fn process_command<R: ByteSource, W: ByteSink, G: Agenda + Drop, A: Allocator + 
     Ok(())
 }
 
-/// Handles all frames and commands in their order, and makes and writes all starts. Stops at the first fault. `run_prepared` calls it.
+/// Handles all frames and commands in their order. Starts all transmissions, and writes their frames. Stops at the first fault.
+/// `run_prepared` calls it.
 pub fn run<R: ByteSource, W: ByteSink, G: Agenda + Drop, A: Allocator + Copy>(
     commands: &[Command],
     relay: &mut Relay<'_, G, A>,

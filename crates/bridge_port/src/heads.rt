@@ -27,8 +27,10 @@ fn sooner_head(best: Option<(u64, usize)>, fit: u64, class: usize) -> Option<(u6
     }
 }
 
-/// Returns the better of the head `best` and the head of `class` with the earliest start `fit`; `best` if the class has no head (`None`).
-/// `sooner_head` compares them. `refresh_fits` calls it for each class.
+/// Returns the better of the head `best` and the head of `class` with the earliest start `fit` in ns. If the class has no head (`None`),
+/// returns `best`. `sooner_head` compares them.
+///
+/// `refresh_fits` calls it for each class.
 fn sooner_optional_head(
     best: Option<(u64, usize)>,
     fit: Option<u64>,

@@ -1,4 +1,4 @@
-//! The ports of a bridge, and an agenda of their next starts.
+//! The ports of a bridge, and an agenda of their next transmissions.
 ghost use Rattle.std.specs.Prelude.{◌≡◌, ℕ, false, ◌<◌, ◌≤◌, ◌+◌, ◌-◌, [], Some, None, Option, length, nat_eq, if◌then◌else◌, slice_set, slice_index, IfOk, vec_capacity};
 ghost use Rattle.bridge_events.specs.Least.{IsLeast};
 ghost use Rattle.bridge_config.specs.Rules.{find_port};
@@ -18,7 +18,7 @@ use bridge_semantics::{PortCount, QueuedFrame};
 use std::alloc::Allocator;
 use std::marker::Model;
 
-/// Ports of a bridge, and the time of each port's next start.
+/// Ports of a bridge, and the time of each port's next transmission.
 #[derive(Drop)]
 pub struct Ports<G: Agenda + Drop, A: Allocator + Copy> {
     /// Ports by number: port n is at index n - 1 of 16, or `None` if the plan lacks it.
@@ -43,8 +43,8 @@ impl<G: Agenda + Drop, A: Allocator + Copy> Model for Ports<G, A> {
     } };
 }
 
-/// Sets the next start of port `port` to `due` ns; clears it if `due` is `None`. `Ports::start` calls it after each start, and
-/// `update_next_start` after offers.
+/// Sets the time of the next transmission of port `port` to `due` ns; clears it if `due` is `None`. `Ports::start` calls it after each
+/// transmission, and `update_next_start` after offers.
 #[inline(always)]
 fn set_next_start<G: Agenda>(agenda: &mut G, port: u8, due: Option<u64>)
     requires from { 1 ≤ port }
@@ -57,8 +57,8 @@ fn set_next_start<G: Agenda>(agenda: &mut G, port: u8, due: Option<u64>)
     }
 }
 
-/// Changes the next start of port `port` from `before` to `due`, both in ns. Does nothing if they are equal, as after most offers.
-/// `Ports::offer` calls it.
+/// Changes the time of the next transmission of port `port` from `before` to `due`, both in ns. Does nothing if both are equal, as after
+/// most offers. `Ports::offer` calls it.
 #[inline(always)]
 fn update_next_start<G: Agenda>(agenda: &mut G, port: u8, before: Option<u64>, due: Option<u64>)
     requires from { 1 ≤ port }

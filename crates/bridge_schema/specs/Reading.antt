@@ -19,7 +19,8 @@ abbrev pub Unless : Bool → Type 0 → Type 0
 Unless true Holds = Unit {0}
 Unless false Holds = Holds
 
--- Holds if the fault `e` of a reader is the fault of its definition `read`, unless `e` means that memory ran out.
+-- Holds if the reader's fault `e` is the fault of its definition `read`. If `e` means that memory ran out, any `read`
+-- is allowed.
 abbrev pub Fails : {Y E : Type 0} → (E → Bool) → E → Result Y E → Type 0
 Fails is_memory e read = Unless (is_memory e) (read ≡ Err e)
 

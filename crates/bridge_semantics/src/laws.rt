@@ -75,8 +75,8 @@ pub fn no_other_class_occupies<A: Allocator + Copy>()
         → x.class ≡ c }
 {}
 
-/// The scheduler neither misses nor delays a start of a protected filter's reachable class. Its copies start as if the class had the link
-/// alone (`alone`).
+/// The scheduler neither misses nor delays a transmission of a protected filter's reachable class. Its copies start as if the class had the
+/// link alone (`alone`).
 ///
 /// Each copy starts at the first time that fits, once it has arrived and the class's previous copy has left (`at_once`, `own`).
 /// docs/ISOLATION.md cites it.

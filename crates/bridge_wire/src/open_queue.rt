@@ -37,7 +37,7 @@ pub struct OpenQueue<A: Allocator + Copy> {
     earliest: u64,
     /// Number of offers so far.
     offered: u64,
-    /// Number of starts so far.
+    /// Number of transmissions that the queue has started.
     started: u64,
     ghost ring: { IsRing (vec_len places) head tail queued },
     ghost short: { All (λ x. x.len ≤ LONGEST_FRAME) (take queued (ring_items head places.items)) },
@@ -137,7 +137,8 @@ impl<A: Allocator + Copy> OpenQueue<A> {
         &self.places[self.head]
     }
 
-    /// Returns the time in ns of the next start if nothing more is offered; `None` if no frame is queued. `send_due_frames` calls it.
+    /// Returns the time in ns at which the next transmission starts if nothing more is offered; `None` if no frame is queued.
+    /// `send_due_frames` calls it.
     #[inline(always)]
     pub fn next_start(&self) -> Option<u64>
         ensures due { IsNextStartTime (queue_state self.now) result }

@@ -51,8 +51,7 @@ pub struct LimitedRow {
     pub deadline: Option<u64>,
 }
 
-/// Returns whether a row's table has a key that limits the frames (`LIMIT_KEYS`). Otherwise `read_talker_row` reads a row with periodic
-/// traffic.
+/// Returns whether a row's table has a key that limits the frames (`LIMIT_KEYS`). Otherwise `read_talker_row` reads a periodic row.
 pub(crate) fn is_limited(table: &Table) -> bool
     ensures { result ≡ spec.is_limited (table_view table.now) }
 {

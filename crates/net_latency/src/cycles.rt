@@ -116,8 +116,8 @@ fn explain_rows(
     None
 }
 
-/// Explains the fault of row `index`, with periodic traffic. Its period isn't a multiple of a cycle time, or its filter is missing, grouped
-/// or unprotected. `explain_rows` calls it.
+/// Explains the fault of periodic row `index`. Its period isn't a multiple of a cycle time, or its filter is missing, grouped or
+/// unprotected. `explain_rows` calls it.
 fn explain_periodic_row(
     alloc: Global,
     asked: TrafficText<'_>,
@@ -136,8 +136,8 @@ fn explain_periodic_row(
     }
 }
 
-/// Explains row `index`, with periodic traffic, whose filter belongs to group `group`. Names the limit that the row can have instead:
-/// `frames` and `period`. `explain_periodic_row` calls it.
+/// Explains periodic row `index`, whose filter belongs to group `group`. Names the limit that the row can have instead: `frames` and
+/// `period`. `explain_periodic_row` calls it.
 fn explain_grouped_filter(
     alloc: Global,
     asked: TrafficText<'_>,
@@ -161,8 +161,8 @@ fn explain_grouped_filter(
     said.finish().ok()
 }
 
-/// Explains row `index`, with a limit of its frames: its filter `number` is missing, protected, or in no group. Lists the grouped filters.
-/// `explain_rows` calls it.
+/// Explains limited row `index`: its filter `number` is missing, protected, or in no group. Lists the grouped filters. `explain_rows` calls
+/// it.
 fn explain_limited_row(
     alloc: Global,
     asked: TrafficText<'_>,
@@ -200,8 +200,8 @@ fn explain_limited_row(
     said.finish().ok()
 }
 
-/// Explains row `index`, with periodic traffic: its filter `number` is missing or unprotected. Lists the protected filters.
-/// `explain_periodic_row` calls it.
+/// Explains periodic row `index`: its filter `number` is missing or unprotected. Lists the protected filters. `explain_periodic_row` calls
+/// it.
 fn explain_unusable_filter(
     alloc: Global,
     asked: TrafficText<'_>,

@@ -290,13 +290,13 @@ fn is_in_time(
 /// Lines of `net check` about the streams, and whether all streams pass and meet their deadlines.
 #[derive(Drop)]
 pub struct StreamLines<B: Allocator> {
-    /// One line for each stream.
+    /// One `stream` line for each stream.
     pub text: String<B>,
     /// Whether each stream meets its deadline, and each frame of a periodic talker passes.
     pub kept: bool,
 }
 
-/// Writes the line of a stream with its delays and its margin. Returns whether the stream passes and meets its deadline. `stream_lines`
+/// Writes the `stream` line of a stream, with delays and margin. Returns whether the stream passes and meets its deadline. `stream_lines`
 /// calls it.
 fn put_stream<A: Allocator + Copy, B: Allocator>(
     text: &mut TextBuilder<B>,
@@ -331,8 +331,8 @@ fn both(a: bool, b: bool) -> bool
     a && b
 }
 
-/// Returns the lines of all streams of a network, and whether all of them pass and meet their deadlines. `bounds` has the delay bounds of
-/// each bridge. `network_lines` of `net_check` calls it.
+/// Returns the `stream` lines of all streams of a network, and whether all of them pass and meet their deadlines. `bounds` has the delay
+/// bounds of each bridge. `network_lines` of `net_check` calls it.
 pub fn stream_lines<A: Allocator + Copy, B: Allocator + Copy>(
     alloc: A,
     heap: B,

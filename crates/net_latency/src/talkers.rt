@@ -77,7 +77,7 @@ fn suits_hops<A: Allocator + Copy>(
     }
 }
 
-/// Returns the fault of the first stream whose period isn't a multiple of each cycle time on its route, or `None` without one.
+/// Returns the fault of the first stream whose period isn't a multiple of each cycle time on its route. `None` if every period fits.
 /// `check_periods` and `explain_plans` of `net_check` call it.
 pub fn first_misfit<A: Allocator + Copy>(
     plans: &[Accepted<A>],

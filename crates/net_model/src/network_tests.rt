@@ -82,7 +82,7 @@ fn end_port<'a, A: Allocator + Copy>(
     }
 }
 
-/// Returns whether the port that `end` names has a link. A port without one is open. `doubly_linked_end` and `is_entry_port` call it.
+/// Returns whether the port that `end` names has a link. A port without a link is open. `doubly_linked_end` and `is_entry_port` call it.
 fn is_linked(links: &[Link], end: BridgePort) -> bool
     ensures { result ≡ spec.is_linked links.now end }
 {
@@ -382,9 +382,10 @@ impl<'a, A: Allocator + Copy> TestedHop<'a, A> {
         }
     }
 
-    /// Returns the fault of the test `Closed` or `Fed` for hop `k` of stream `i`. `None` if the hop passes the test. `k` and `i` are
-    /// indexes from 0; the fault counts from
-    /// 1. `hop_test_fault_in_plan` calls it.
+    /// Returns the fault of the test `Closed` or `Fed` for hop `k` of stream `i`. `None` if the hop passes the test.
+    /// `hop_test_fault_in_plan` calls it.
+    ///
+    /// `k` and `i` are indexes from 0; the fault counts from 1.
     fn frames_test_fault(&self, test: HopTest, i: usize, k: usize) -> Option<NetworkFault>
         requires case { IsTestedHop self.now }
         requires stream { i < 18446744073709551615 }

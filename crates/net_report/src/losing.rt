@@ -10,7 +10,7 @@ use bridge_report::{Losses, greatest_delay, put_losses, put_reason};
 use bridge_text::TextBuilder;
 use std::alloc::Allocator;
 
-/// A hop of a stream with its losses. `put_faults` writes them in the line of a stream that lost frames.
+/// A hop of a stream with its losses. `put_faults` writes them in the stream's `lost:` line.
 #[derive(Drop)]
 pub struct HopLosses<A: Allocator> {
     /// Name of the hop, with a space at its end.
@@ -84,7 +84,7 @@ fn put_loss_causes<A: Allocator>(
     put_reason(text, "", "nowhere", count_not_forwarded(tallies) as u128);
 }
 
-/// Writes the line of a stream that lost frames. `put_lost_if` calls it.
+/// Writes the `lost:` line of a stream that lost frames. `put_lost_if` calls it.
 fn put_lost<A: Allocator>(
     text: &mut TextBuilder<A>,
     stream: &str,
@@ -106,7 +106,7 @@ fn put_lost<A: Allocator>(
     text.put("\n");
 }
 
-/// Writes the line of a stream if not all its first-hop frames were delivered. `put_faults` calls it.
+/// Writes the `lost:` line of a stream if not all its first-hop frames were delivered. `put_faults` calls it.
 fn put_lost_if<A: Allocator>(
     text: &mut TextBuilder<A>,
     stream: &str,

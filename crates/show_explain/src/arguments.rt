@@ -306,7 +306,7 @@ fn reason_alone(reason: &'static str) -> &'static str {
     }
 }
 
-/// Writes why arguments of the right number are refused: the option at fault or, without one, the command's own reason.
+/// Writes why arguments of the right number are refused: the option at fault, or the command's own reason if no option is at fault.
 /// `put_command_refusal` calls it.
 fn put_reason(said: &mut Said, words: &[String], call: &Usage) {
     match wrong_option(words, call) {

@@ -118,7 +118,7 @@ fn is_list_refused(
     }
 }
 
-/// Writes why a list of instance `index` is refused. Finds the list with this fault; without one, takes the section's first list.
+/// Writes why a list of instance `index` is refused. Finds the list with this fault; if no list has it, takes the section's first list.
 /// `put_fault` calls it.
 pub(crate) fn put_refused_list(
     alloc: Global,

@@ -121,7 +121,7 @@ fn is_in_group(filter: &FilterPlan, group: u32) -> bool {
     }
 }
 
-/// Returns the number of the first filter in the group; 0 without one. `put_filters` calls it.
+/// Returns the number of the first filter in the group; 0 if the group has no filter. `put_filters` calls it.
 pub(crate) fn first_of_group(filters: &[(u32, FilterPlan)], group: u32) -> u32 {
     for (number, filter) in filters {
         if is_in_group(filter, group) {

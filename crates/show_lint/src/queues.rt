@@ -175,8 +175,8 @@ fn find_opening_warnings<A: Allocator + Copy>(
     find_long_wait(found, queue, openings)
 }
 
-/// Returns whether all frames that an entry passes enter class `class`: by the entry's internal priority value or, without one, the
-/// filter's priority. `class_openings` calls it.
+/// Returns whether all frames that an entry passes enter class `class`. The entry's internal priority value decides or, if the entry has
+/// none, the filter's priority. `class_openings` calls it.
 fn is_opening_for_class(
     opening: &GateOpening,
     priority: Option<u8>,

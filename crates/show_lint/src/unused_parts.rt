@@ -21,7 +21,7 @@ pub(crate) const SHORTEST: u64 = 64;
 /// SDU octets of the shortest frame: its EtherType.
 const LEAST_SDU: u32 = 2;
 
-/// Returns whether at least one filter is protected or grouped. Without one, the plan has no guarantee. `find_unprotected` calls it.
+/// Returns whether at least one filter is protected or grouped. If none is, the plan has no guarantee. `find_unprotected` calls it.
 fn has_tested(filters: &[(u32, FilterPlan)]) -> bool
     ensures { result ≡ spec.has_tested filters.now }
 {
