@@ -41,8 +41,8 @@ AreInputsOfPlans ps cs = ⊥
 abbrev pub IsCaptureLine : List ℕ → RunFault → List ℕ → Type 0
 IsCaptureLine name e line = (rest : List ℕ) → run_fault_line e ≡ codes "capture " ++ rest → line ≡ codes "capture " ++ (name ++ (codes "." ++ rest))
 
--- The fault line of a network run whose inputs still change after the last allowed round: the bridge and the first such
--- port.
+-- The fault line of a network run whose inputs still change after the last allowed round. It names the bridge and port
+-- of the first input that still changes.
 abbrev pub unsettled_line : List ℕ → ℕ → List ℕ
 unsettled_line name port = codes "network not settled " ++ (name ++ (codes "." ++ decimal port))
 

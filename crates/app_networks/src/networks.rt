@@ -73,8 +73,8 @@ fn output_of_check(said: NetworkOutput, reasons: String, flags: Flags) -> Result
     })
 }
 
-/// Runs a network and returns the output of `net`. The status is 1 if a warning or a loss is an error. After such a warning, the network
-/// doesn't run. `run_network_request` calls it.
+/// Runs a network and returns the output of `net`. The status is 1 if a warning or a loss is an error. If a warning is an error, the
+/// network doesn't run. `run_network_request` calls it.
 pub(crate) fn run_network<H: AllocGlobal + Eprint + Files>(
     files: &mut CommandFiles<'_, H>,
     job: &NetworkRunRequest<'_>,

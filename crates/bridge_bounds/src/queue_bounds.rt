@@ -46,8 +46,8 @@ pub fn class_bound<A: Allocator + Copy>(port: &PortPlan<A>, class: u8, sdu: u32)
     occupied - 1 + longest
 }
 
-/// Returns the delay bound in ns, by capacity, of a queue that protected filter `number` can reach. The result is never `None`, because
-/// such a filter has a maximum SDU. `queue_bound` calls it.
+/// Returns the delay bound in ns, by capacity, of a queue that protected filter `number` can reach. The result is never `None`, because a
+/// protected filter has a maximum SDU. `queue_bound` calls it.
 fn reached_queue_bound<A: Allocator + Copy>(
     plan: &Plan<A>,
     number: u32,

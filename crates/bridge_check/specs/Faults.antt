@@ -38,7 +38,8 @@ is_greatest_number filters n = list_all (λ g. nat_le g.0 n) filters
 abbrev pub has_catch_all : List (ℕ × FilterPlan) → Bool
 has_catch_all filters = list_any (λ g. is_greatest_number filters g.0 && not (is_some g.1.handle) && not (is_some g.1.priority)) filters
 
--- The lowest number, other than `n`, of a filter in the list that can reach class `c` at port `q`; `None` without such a filter.
+-- The lowest number, other than `n`, of a filter in the list that can reach class `c` at port `q`. `None` if no other
+-- filter can.
 abbrev pub other_in_queue : {A : Type 0} → Plan A → List (ℕ × FilterPlan) → ℕ → ℕ → ℕ → Option ℕ
 other_in_queue p [] n q c = None
 other_in_queue p (g ∷ gs) n q c = if not (nat_eq g.0 n) && reaches_queue p g.1 q c then lesser_number (Some g.0) (other_in_queue p gs n q c) else other_in_queue p gs n q c
@@ -48,7 +49,8 @@ abbrev pub is_in_group : ℕ → Option ℕ → Bool
 is_in_group k None = false
 is_in_group k (Some g) = nat_eq g k
 
--- The lowest number of a filter in the list, outside group `k`, that can reach class `c` at port `q`; `None` without such a filter.
+-- The lowest number of a filter in the list, outside group `k`, that can reach class `c` at port `q`. `None` if no
+-- filter outside the group can.
 abbrev pub outsider_in_queue : {A : Type 0} → Plan A → List (ℕ × FilterPlan) → ℕ → ℕ → ℕ → Option ℕ
 outsider_in_queue p [] k q c = None
 outsider_in_queue p (g ∷ gs) k q c = if not (is_in_group k g.1.group) && reaches_queue p g.1 q c then lesser_number (Some g.0) (outsider_in_queue p gs k q c) else outsider_in_queue p gs k q c

@@ -99,7 +99,8 @@ fn has_port_keys(change: Option<u64>, table: &Table) -> bool
         && has_only_port_entry_keys(Field::NextGates, table)
 }
 
-/// Whether a port has number `number`. Streams may name only such a port, and later ports need another number. `PortNumbers::has` calls it.
+/// Whether a port has number `number`. Streams may name only a port of the plan, and later ports need another number. `PortNumbers::has`
+/// calls it.
 pub(crate) fn has_port<A: Allocator + Copy>(ports: &[PortPlan<A>], number: u64) -> bool
     ensures { result ≡ rules.has_port ports.now number }
 {

@@ -14,7 +14,7 @@ use bridge_schema::{
 use std::alloc::Allocator;
 use toml::Table;
 
-/// Whether a VLAN has the identifier `vid`. Static entries may name only such a VLAN, and later VLANs need another identifier.
+/// Whether a VLAN has the identifier `vid`. Static entries may name only a VLAN of the plan, and later VLANs need another identifier.
 /// `VlanNumbers::has` and `read_vlan` call it.
 pub(crate) fn has_vlan(vlans: &[Vlan], vid: u64) -> bool
     ensures { result ≡ rules.has_vlan vlans.now vid }

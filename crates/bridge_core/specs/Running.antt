@@ -118,7 +118,7 @@ pub record CanTakeFrames {G A : Type 0} (b : RelayState G A) (lanes : List (Capt
 abbrev pub head_time : {A : Type 0} → CaptureReader A → Option ℕ
 head_time lane = option_map (λ p. p.time) lane.ahead
 
--- The time in ns of the next frame of reader `i`, counted from 1; `None` without such a frame.
+-- The time in ns of the next frame of reader `i`, counted from 1; `None` if the reader is missing or has no next frame.
 abbrev pub nth_head_time : {A : Type 0} → List (CaptureReader A) → ℕ → Option ℕ
 nth_head_time lanes zero = None
 nth_head_time lanes (suc i) = option_and_then head_time (slice_get lanes i)

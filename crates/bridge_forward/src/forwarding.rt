@@ -153,7 +153,7 @@ impl<A: Allocator + Copy> Forwarding<A> {
         }
     }
 
-    /// Returns the ports of the static entry for a VLAN and an address; `None` without such an entry. Tries the hinted index before the
+    /// Returns the ports of the static entry for a VLAN and an address; `None` if there is no entry. Tries the hinted index before the
     /// hash. `Forwarding::forward` calls it.
     #[inline(always)]
     fn static_ports(&self, vid: u16, da: &[u8; 6]) -> Option<PortSet>

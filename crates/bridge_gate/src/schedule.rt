@@ -61,7 +61,7 @@ impl<A: Allocator + Copy> Schedule<A> {
         }
     }
 
-    /// Whether each internal priority value is 0 to 7 or absent. A stream gate is made only with such values.
+    /// Whether each internal priority value is 0 to 7 or absent. A stream gate is made only with valid values.
     pub fn has_valid_priorities(&self) -> bool
         ensures { result ≡ has_valid_priorities self.now }
     {

@@ -237,8 +237,10 @@ impl<G: Agenda + Drop, A: Allocator + Copy> Ports<G, A> {
         }
     }
 
-    /// Returns the number of ports in `set` that exist, and the highest of them; 0 and 0 without such a port. A frame gets one copy for
-    /// each. `prepare_copies`, `offer_several_copies` and 2 more call it.
+    /// Returns the number of ports in `set` that exist, and the highest of them; 0 and 0 if no port of the set exists. A frame gets one
+    /// copy for each port.
+    ///
+    /// `prepare_copies`, `offer_several_copies` and 2 more call it.
     #[inline(always)]
     pub fn count_outputs(&self, set: PortSet) -> (usize, u8)
         ensures count { result.0 ≡ count_outputs self.now.slots set 16 }

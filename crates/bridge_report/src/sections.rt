@@ -17,7 +17,7 @@ use std::io::Write;
 /// Buffer size in octets: a writer receives at most this number at once.
 const BUFFER_OCTETS: usize = 262_144;
 
-/// Returns the record of the filter with number `filter` in a run's result, or `None` if the result has no such filter. `hop_run` of
+/// Returns the record of the filter with number `filter` in a run's result, or `None` if the result lacks the filter. `hop_run` of
 /// `app_networks`, `section` and `has_section` call it.
 pub fn find_view<A: Allocator>(outcome: &Outcome<A>, filter: u32) -> Option<&View<A>>
     ensures { option_map (λ view. view.now) result ≡ lookup (nat_eq filter) outcome.now.filters.items }

@@ -23,7 +23,7 @@ const PASSES: u32 = 8;
 /// Largest number of changes that `relieve_stream` makes for one stream in one pass.
 const CHANGES: u32 = 16;
 
-/// Returns changes after which each stream that the search may change (`is_searched`) meets its deadline. Returns `None` if some such
+/// Returns changes after which each stream that the search may change (`is_searched`) meets its deadline. Returns `None` if some searched
 /// stream was late in each of `PASSES` passes, or if memory runs out.
 ///
 /// `explain_network_streams` calls it.

@@ -164,8 +164,8 @@ pub(crate) fn traffic_with_phases(talker: &Talker, from: u64, to: u64) -> Option
     })
 }
 
-/// Returns the delay in ns of the first link between the bridges of hop `place` and of the hop before it. Returns `None` without such a
-/// link. `hop_traffic` and `is_chain` call it.
+/// Returns the delay in ns of the first link between the bridges of hop `place` and of the hop before it. Returns `None` if no link joins
+/// both bridges. `hop_traffic` and `is_chain` call it.
 fn link_delay(links: &[Link], hops: &[StreamHop], place: usize) -> Option<u64> {
     let hop = hops.get(place)?.bridge;
     let before = hops.get(place.checked_sub(1)?)?.bridge;

@@ -64,7 +64,7 @@ abbrev pub pair_with_number : Option ℕ → ℕ → Result (ℕ × ℕ) Flaw
 pair_with_number None n = Err flaw.Unresolved
 pair_with_number (Some k) n = Ok (k, n)
 
--- The bridge's index and the number of an optional numbered name, or `OutOfRange` without such a name.
+-- The bridge's index and the number of an optional numbered name, or `OutOfRange` if the name is missing.
 abbrev pub resolve_if_named : List Bridge → Option NumberedName → Result (ℕ × ℕ) Flaw
 resolve_if_named bridges None = Err flaw.OutOfRange
 resolve_if_named bridges (Some x) = pair_with_number (bridge_index bridges x.name) x.number

@@ -91,8 +91,8 @@ fn put_row_position(
     put_position(said, row.position(Some(field.key())));
 }
 
-/// Explains the first row that doesn't suit the plan; only this row is in the fault line. Returns `None` without such a row or without
-/// memory. `explain_traffic` calls it.
+/// Explains the first row that doesn't suit the plan; only this row is in the fault line. Returns `None` if every row suits the plan, or if
+/// memory runs out. `explain_traffic` calls it.
 fn explain_rows(
     alloc: Global,
     asked: TrafficText<'_>,

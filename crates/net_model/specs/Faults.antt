@@ -119,7 +119,7 @@ protected_handle [] m = None
 protected_handle (f ∷ fs) m = if nat_eq f.0 m && f.1.protected then f.1.handle else protected_handle fs m
 
 -- An example of stray or own frames (kind `w`) that hop `h` may accept over the link of the optional port. `None` if
--- there are no such frames, or if the port is missing.
+-- the search finds no frames, or if the port is missing.
 abbrev pub first_taken_at_port : {A : Type 0} → FrameQuery → NetworkParts A → List StreamHop → StreamHop → Plan A → Option (PortPlan A) → Option FoundFrames
 first_taken_at_port w n hops h next None = None
 first_taken_at_port w n hops h next (Some on) = first_taken_over_link w n.plans (stream_value hops) (peer_port n.links h.bridge on.number) next on h.filter

@@ -49,7 +49,7 @@ frames_by_handle w p is_of_stream q from priority handle =
     frames_if_asked (is_asked w p is_of_stream q (matching_filter p handle priority)) (matching_filter p handle priority) from
 
 -- The first example of stray or own frames (kind `w`) of pattern `s` that arrive at ingress port `on` and can leave by
--- port `q`. `None` if there are no such frames.
+-- port `q`. `None` if the search finds no frames.
 --
 -- Handles are tried in the order of `possible_handles`.
 abbrev pub first_frame_on_ingress : {A : Type 0} → FrameQuery → Plan A → (ℕ → Bool) → ℕ → FramePattern → PortPlan A → Option FoundFrames
@@ -61,7 +61,7 @@ first_frame_on_ingress w p is_of_stream q s on =
 -- The first example of stray or own frames (kind `w`) of pattern `s` that arrive at the ingress port and can leave by
 -- port `q`.
 --
--- `None` if the port is missing or there are no such frames.
+-- `None` if the port is missing or the search finds no frames.
 abbrev pub first_frame_on_ingress_if_any : {A : Type 0} → FrameQuery → Plan A → (ℕ → Bool) → ℕ → FramePattern → Option (PortPlan A) → Option FoundFrames
 first_frame_on_ingress_if_any w p is_of_stream q s None = None
 first_frame_on_ingress_if_any w p is_of_stream q s (Some on) = first_frame_on_ingress w p is_of_stream q s on
@@ -74,40 +74,40 @@ first_sent_frame w p is_of_stream q s = first_among_numbers 16 (λ i. first_fram
 -- An example of stray or own frames (kind `w`) from port `q` with this tag and the address of `e`. Entry `e` must give
 -- these frames to filter `n`.
 --
--- `None` if there are no such frames.
+-- `None` if the search finds no frames.
 abbrev pub first_taken_with_tag : {A : Type 0} → FrameQuery → Plan A → (ℕ → Bool) → ℕ → Plan A → PortPlan A → ℕ → StreamEntry → Option Tag
     → Option FoundFrames
 first_taken_with_tag w p is_of_stream q next on n e tag =
     if is_feeding_entry next on n e tag then first_sent_frame w p is_of_stream q (frame_pattern e tag) else None
 
 -- The first example of stray or own frames (kind `w`) from port `q` with the address of entry `e` for filter `n`.
--- `None` if there are no such frames.
+-- `None` if the search finds no frames.
 --
 -- Tags are tried in the order of `possible_tags`.
 abbrev pub first_taken_of_entry : {A : Type 0} → FrameQuery → Plan A → (ℕ → Bool) → ℕ → Plan A → PortPlan A → ℕ → StreamEntry → Option FoundFrames
 first_taken_of_entry w p is_of_stream q next on n e = find_first (first_taken_with_tag w p is_of_stream q next on n e) (possible_tags e.vid)
 
--- The first example of stray or own frames (kind `w`) from port `q` that filter `n` may accept. `None` if there are no
--- such frames. The stream entries of plan `next` are tried in order.
+-- The first example of stray or own frames (kind `w`) from port `q` that filter `n` may accept. `None` if the search
+-- finds no frames. The stream entries of plan `next` are tried in order.
 abbrev pub first_taken : {A : Type 0} → FrameQuery → Plan A → (ℕ → Bool) → ℕ → Plan A → PortPlan A → ℕ → Option FoundFrames
 first_taken w p is_of_stream q next on n = find_first (first_taken_of_entry w p is_of_stream q next on n) next.streams
 
 -- An example of stray or own frames (kind `w`) that filter `n` may accept from the optional sending port `q`. `None` if
--- the port is missing or there are no such frames.
+-- the port is missing or the search finds no frames.
 abbrev pub first_taken_of_sender_port : {A : Type 0} → FrameQuery → Plan A → (ℕ → Bool) → ℕ → Option (PortPlan A) → Plan A → PortPlan A → ℕ
     → Option FoundFrames
 first_taken_of_sender_port w p is_of_stream q None next on n = None
 first_taken_of_sender_port w p is_of_stream q (Some out) next on n = first_taken w p is_of_stream q next on n
 
 -- An example of stray or own frames (kind `w`) that filter `n` may accept at port `on` from the optional sending
--- bridge. `None` if the bridge is missing or there are no such frames.
+-- bridge. `None` if the bridge is missing or the search finds no frames.
 abbrev pub first_taken_of_sender : {A : Type 0} → FrameQuery → Option (Plan A) → List (ℕ × ℕ) → End → Plan A → PortPlan A → ℕ → Option FoundFrames
 first_taken_of_sender w None stream e next on n = None
 first_taken_of_sender w (Some p) stream e next on n =
     first_taken_of_sender_port w p (has_hop stream e.bridge) e.port (find_port p.ports e.port) next on n
 
 -- An example of stray or own frames (kind `w`) that filter `n` may accept at port `on` from the optional link end.
--- `None` if the link end is missing or there are no such frames.
+-- `None` if the link end is missing or the search finds no frames.
 abbrev pub first_taken_over_link : {A : Type 0} → FrameQuery → List (Plan A) → List (ℕ × ℕ) → Option End → Plan A → PortPlan A → ℕ
     → Option FoundFrames
 first_taken_over_link w plans stream None next on n = None

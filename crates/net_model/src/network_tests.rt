@@ -51,7 +51,7 @@ pub(crate) struct TestedNetwork<'a, A: Allocator + Copy> {
     pub streams: &'a [Vec<StreamHop, A>],
 }
 
-/// Returns the plan of the bridge with index `place`, from 0. Returns `None` if the network has no such bridge. `is_received_by_next_hop`,
+/// Returns the plan of the bridge with index `place`, from 0. Returns `None` if the network lacks the bridge. `is_received_by_next_hop`,
 /// `hop_sdu` of `net_check` and 8 more call it.
 pub fn find_plan<'a, A: Allocator + Copy>(
     plans: &'a [Accepted<A>],
@@ -179,7 +179,7 @@ pub fn protected_handle(filters: &[(u32, FilterPlan)], number: u32) -> Option<u3
     None
 }
 
-/// Returns whether the plan has a stream entry with handle `handle` on port `port`. Without such an entry, no frame gets the handle there.
+/// Returns whether the plan has a stream entry with handle `handle` on port `port`. If the plan has none, no frame gets the handle there.
 /// `is_entry_port` and `enters` of `net_latency` call it.
 pub fn has_entry<A: Allocator + Copy>(plan: &Plan<A>, port: u8, handle: u32) -> bool
     ensures { result ≡ spec.has_entry plan.now port handle }
@@ -268,8 +268,9 @@ impl<'a, A: Allocator + Copy> TestedHop<'a, A> {
         }
     }
 
-    /// Returns an example of the frames that `question` asks for, which the hop can accept over the link of port `on`. Returns `None`
-    /// without such frames or without a link.
+    /// Returns an example of the frames that `question` asks for, which the hop can accept over the link of port `on`.
+    ///
+    /// Returns `None` if the search finds no frames, or if the port has no link.
     fn first_frame_over_link(&self, question: FrameQuery, on: &PortPlan<A>) -> Option<FoundFrames>
         requires { IsTestedHop self.now }
         ensures { result ≡ spec.first_taken_at_port question (tested_parts self.now.case) self.now.stream.now
@@ -282,8 +283,9 @@ impl<'a, A: Allocator + Copy> TestedHop<'a, A> {
         }
     }
 
-    /// Returns the number `port` and an example of the frames that `question` asks for, which can arrive there over a link. Returns `None`
-    /// without such frames or without this port.
+    /// Returns the number `port` and an example of the frames that `question` asks for, which can arrive there over a link.
+    ///
+    /// Returns `None` if the search finds no frames, or if the bridge lacks the port.
     fn first_frame_on_port(&self, question: FrameQuery, port: u8) -> Option<(u8, FoundFrames)>
         requires { IsTestedHop self.now }
         ensures { result ≡ spec.first_taken_at_port_number question (tested_parts self.now.case) self.now.stream.now
@@ -324,7 +326,7 @@ impl<'a, A: Allocator + Copy> TestedHop<'a, A> {
     }
 
     /// Returns the lowest port at which the hop can accept frames that `question` asks for over a link, with an example. Returns `None` if
-    /// there is no such port.
+    /// no port can.
     #[tactic(auto, using(bridge_check::proofs::Told::first_none, bridge_check::proofs::Told::first_more))]
     fn first_frame_by_port(&self, question: FrameQuery) -> Option<(u8, FoundFrames)>
         requires { IsTestedHop self.now }

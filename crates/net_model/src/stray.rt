@@ -104,7 +104,7 @@ impl<'a, A: Allocator + Copy> TakingFilter<'a, A> {
 }
 
 /// Returns example frames that the bridge with plan `plan` can send from `end`. The hop's filter, with handle `handle`, would accept them
-/// although they belong to no hop. `None` if there are no such frames.
+/// although they belong to no hop. `None` if the search finds no frames.
 ///
 /// `first_stray_from_peer` calls it.
 fn first_stray_of_sender<A: Allocator + Copy>(
@@ -144,8 +144,8 @@ fn first_stray_of_sender<A: Allocator + Copy>(
     }
 }
 
-/// Returns example stray frames that the hop's filter, with handle `handle`, would accept over a link from `end`. `None` if there are no
-/// such frames. Looks up the plan of the sending bridge.
+/// Returns example stray frames that the hop's filter, with handle `handle`, would accept over a link from `end`. `None` if the search
+/// finds no frames. Looks up the plan of the sending bridge.
 ///
 /// `first_stray_over_link` calls it.
 fn first_stray_from_peer<A: Allocator + Copy>(
@@ -192,8 +192,8 @@ fn first_stray_over_link<A: Allocator + Copy>(
     }
 }
 
-/// Returns example stray frames at port `on` of the hop's bridge. `None` without such frames, or if the hop's filter names no handle.
-/// `first_stray_on_port_number` calls it.
+/// Returns example stray frames at port `on` of the hop's bridge. `None` if the search finds no frames, or if the hop's filter names no
+/// handle. `first_stray_on_port_number` calls it.
 fn first_stray_on_port<A: Allocator + Copy>(
     plans: &[Accepted<A>],
     links: &[Link],
@@ -212,8 +212,8 @@ fn first_stray_on_port<A: Allocator + Copy>(
     }
 }
 
-/// Returns example stray frames at the port with number `port`. `None` without such frames, or if the hop's bridge lacks the port.
-/// `find_stray` calls it.
+/// Returns example stray frames at the port with number `port`. `None` if the search finds no frames, or if the hop's bridge lacks the
+/// port. `find_stray` calls it.
 fn first_stray_on_port_number<A: Allocator + Copy>(
     plans: &[Accepted<A>],
     links: &[Link],

@@ -28,8 +28,8 @@ pub(crate) struct TakingFilter<'a, A: Allocator + Copy> {
 }
 
 impl<'a, A: Allocator + Copy> TakingFilter<'a, A> {
-    /// Returns the first example among frames with this tag and the address of `entry`. Returns `None` without an example, or if the entry
-    /// doesn't give such frames to the filter.
+    /// Returns the first example among frames with this tag and the address of `entry`. Returns `None` if there is no example, or if the
+    /// entry doesn't give these frames to the filter.
     ///
     /// `sample_of_entry`, `first_or_frame_with_tag` and `first_frame_of_matching_entry` call it.
     pub(crate) fn first_frame_with_tag(

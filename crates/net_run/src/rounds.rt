@@ -37,8 +37,10 @@ pub enum RoundsFault {
     /// Bridge `bridge`, an index from 0, refuses a capture: it is the first bridge of the round with a fault. `fault` is never a failed
     /// read or write, because all captures are in memory.
     Bridge { bridge: usize, fault: RunFault },
-    /// In the last allowed round, the input of linked port `port` of bridge `bridge`, an index from 0, still changed. It is the first such
-    /// port. With 0 rounds, both numbers are 0.
+    /// In the last allowed round, the input of linked port `port` of bridge `bridge`, an index from 0, still changed. It is the first port
+    /// whose input still changed.
+    ///
+    /// With 0 rounds, both numbers are 0.
     NotSettled { bridge: usize, port: u8 },
     /// Memory ran out.
     NoMemory,

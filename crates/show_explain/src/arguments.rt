@@ -48,7 +48,7 @@ pub fn explain_part(alloc: Global, path: &str) -> Result<String, NoMemory>
     finish_with_path(alloc, path, said)
 }
 
-/// Returns whether option `name`, with its `--`, needs a value. Returns `None` if no command has such an option. `unknown_option`,
+/// Returns whether option `name`, with its `--`, needs a value. Returns `None` if no command has the option. `unknown_option`,
 /// `count_operands` and `option_fault` call it.
 fn has_option_value(name: &str) -> Option<bool> {
     match name.strip_prefix("--") {

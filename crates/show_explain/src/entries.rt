@@ -51,8 +51,8 @@ fn first_flawed_key(keys: &'static [KeyRule], entry: &Table) -> Option<&'static 
     None
 }
 
-/// Writes the first item of list `list` that isn't a table. Without such an item, writes the first wrong key of an entry, its value and the
-/// allowed values. `put_key_fault` calls it.
+/// Writes the first item of list `list` that isn't a table. If every item is a table, writes the first wrong key of an entry, its value and
+/// the allowed values. `put_key_fault` calls it.
 pub(crate) fn put_entry_flaws(
     said: &mut Said,
     keys: &'static [KeyRule],

@@ -376,7 +376,8 @@ fn shared_state<A: Allocator + Copy>(port: &PortPlan<A>, class: u8, at: u64) -> 
 
 /// Returns the gate state at offset `at` ns of port `port` that opens `class` and another class, and whether only the new list has it.
 ///
-/// `put_window` calls it; for `None` (no such port, list, entry or class) it writes that the port has no gate control list.
+/// Returns `None` if the port, its list, the entry or the class is missing. `put_window` calls the function; for `None` it writes that the
+/// port has no gate control list.
 fn shared_state_of_port<A: Allocator + Copy>(
     plan: &Plan<A>,
     port: u8,

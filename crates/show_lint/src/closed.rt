@@ -56,7 +56,7 @@ fn find_class<A: Allocator + Copy>(
 }
 
 /// Adds a warning for each class that never opens, if frames of an unprotected filter can enter its queue. For protected filters, `check`
-/// refuses such a plan. `find_plan_warnings` calls it.
+/// refuses a plan with a closed class. `find_plan_warnings` calls it.
 pub(crate) fn find_closed_classes<A: Allocator + Copy>(
     found: &mut Vec<Warning>,
     plan: &Plan<A>,

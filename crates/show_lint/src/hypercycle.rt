@@ -21,7 +21,7 @@ fn greatest_common_divisor(one: u64, other: u64) -> u64 {
     larger
 }
 
-/// Returns after how many cycles of `cycle` ns such a cycle and a cycle of `port_cycle` ns begin together again; 0 if both are 0.
+/// Returns after how many cycles of `cycle` ns both cycles, of `cycle` and `port_cycle` ns, begin together again; 0 if both are 0.
 /// `aligned_period` and `waits_by_cycle` call it.
 pub(crate) fn cycles_until_aligned(port_cycle: u64, cycle: u64) -> u64 {
     let divisor = greatest_common_divisor(port_cycle, cycle);

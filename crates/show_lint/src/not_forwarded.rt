@@ -24,7 +24,7 @@ pub fn is_not_forwarded<A: Allocator + Copy>(plan: &Plan<A>, stream: &StreamEntr
         .is_empty()
 }
 
-/// Returns the ports of the static entry for VLAN `vid` and an address, or `None` without such an entry. `not_forwarded_cause`,
+/// Returns the ports of the static entry for VLAN `vid` and an address, or `None` if there is no entry. `not_forwarded_cause`,
 /// `find_non_member_ports` and `find_flooded` call it.
 fn static_ports(statics: &[StaticEntry], vid: u16, address: [u8; 6]) -> Option<PortSet>
     ensures { result ≡ static_ports statics.now vid address }

@@ -367,8 +367,8 @@ fn are_all_taken(filters: &[(u32, FilterPlan)], number: u32, filter: &FilterPlan
         & is_priority_taken(filters, number, filter, 7)
 }
 
-/// Returns for each priority, from 0, the number of the first filter below `number` that matches the frames of `filter`; 0 without such a
-/// filter. `find_hidden_filter` calls it.
+/// Returns for each priority, from 0, the number of the first filter below `number` that matches the frames of `filter`. The number is 0 if
+/// no filter matches. `find_hidden_filter` calls it.
 fn taking_filters(filters: &[(u32, FilterPlan)], number: u32, filter: &FilterPlan) -> [u32; 8] {
     let mut takers = [0u32; 8];
     for priority in 0..8u8 {
@@ -450,8 +450,8 @@ fn low_schedule_limit<A: Allocator + Copy>(schedule: &Schedule<A>, sdu: u32) -> 
     }
 }
 
-/// Returns the first octet limit of stream gate `number` that is less than `sdu`. Returns `None` without such a limit or gate.
-/// `find_low_limit` calls it.
+/// Returns the first octet limit of stream gate `number` that is less than `sdu`. Returns `None` if no limit is less, or if the gate is
+/// missing. `find_low_limit` calls it.
 fn low_gate_limit<A: Allocator + Copy>(
     gates: &[(u32, GatePlan<A>)],
     number: u32,
