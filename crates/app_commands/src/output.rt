@@ -17,7 +17,7 @@ pub struct Output {
     pub status: u8,
 }
 
-/// Returns the output of a failure: its fault line and the explanation for standard error, and its exit status.
+/// Returns the output of a failure: the fault line and the explanation for standard error, and the exit status.
 ///
 /// If memory for the explanation runs out, the output has none. `report_words` and `report_failure` of `app_networks` call it.
 pub fn report_fault(

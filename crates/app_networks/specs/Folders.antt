@@ -143,7 +143,7 @@ rounds_line f frames delivered = network_words f ++ (codes "frames " ++ (decimal
 abbrev pub IsLine : {A : Type 0} → List Link → List (BridgeResult A) → file.Network → List ℕ → Type 0
 IsLine links settled f line = (frames : ℕ) × (delivered : ℕ) × AreTotals links settled f.streams 0 0 frames delivered × (line ≡ rounds_line f frames delivered)
 
--- Holds if a complete network run isolates its streams: each stream's records depend on its own inputs only.
+-- Holds if a complete network run isolates the streams: each stream's records depend on the stream's own inputs only.
 pub record IsIsolatedRun {A : Type 0} (n : NetworkParts A) (came : List (BridgeInput A)) (settled : List (BridgeResult A)) : Type 0 where
   pub runs : RunsNetwork n came settled
   pub alone : IsolatesStreams n came settled

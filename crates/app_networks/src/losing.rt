@@ -28,7 +28,7 @@ fn hop_prefix(
     Ok(format!(in alloc; "{name}.{filter} ")?)
 }
 
-/// Returns the losses of a stream's hop: its name and its counts. `runs` has the records of all hops of the stream, `run` the record of
+/// Returns the losses of a stream's hop: the hop's name and counts. `runs` has the records of all hops of the stream, `run` the record of
 /// this hop. `stream_losses` calls it.
 fn hop_loss(
     alloc: Global,

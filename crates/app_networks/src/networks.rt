@@ -55,7 +55,7 @@ fn stream_explanations(rt: &(impl AllocGlobal + Files), path: &str, is_asked: bo
     }
 }
 
-/// Returns the output of `net check` for an accepted network: its lines and warnings on standard output, the explanation of its streams on
+/// Returns the output of `net check` for an accepted network: lines and warnings on standard output, the explanation of the streams on
 /// standard error. `check_network` calls it.
 fn output_of_check(said: NetworkOutput, reasons: String, flags: Flags) -> Result<Output, NoMemory>
     ensures { IfOk result (IsOutputOfCheck said flags.is_strict reasons) }

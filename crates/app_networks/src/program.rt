@@ -67,8 +67,8 @@ fn perform_request<H: Input + AllocGlobal + Clock + Print + Eprint + Files>(
     }
 }
 
-/// Returns the output of a request: of its successful command, or of its failure. Keeps the texts that the command reads, so that an
-/// explanation needs no second reading.
+/// Returns the output of a request: of the command if it succeeds, otherwise of the failure. Keeps the texts that the command reads, so
+/// that an explanation needs no second reading.
 fn request_output<H: Input + AllocGlobal + Clock + Print + Eprint + Files>(
     rt: &H,
     words: &[String],

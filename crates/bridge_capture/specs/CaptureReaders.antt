@@ -93,8 +93,8 @@ HaveRests {R} remaining ports rests sources = (i q : ℕ) (r : R) → slice_get 
 abbrev pub AreUnread : (ℕ → List ℕ) → (ℕ → Option (List ℕ)) → List ℕ → Type 0
 AreUnread texts rests ports = (i q : ℕ) → slice_get ports i ≡ Some q → rests q ≡ Some (texts q)
 
--- Holds if for each reader, the frames `taken` of its port were taken; its frame ahead is the capture's next frame. At
--- the capture's end, the frame ahead is `None`.
+-- Holds if for each reader, the frames `taken` of its port were taken, and the reader's frame ahead is the capture's
+-- next frame. At the capture's end, the frame ahead is `None`.
 abbrev pub AreOneAhead : {A R : Type 0} → (R → Option (List ℕ)) → (ℕ → List ℕ) → (ℕ → List CapturedFrame) → List (CaptureReader A) → List R → Type 0
 AreOneAhead {A} {R} remaining texts taken lanes sources = (i : ℕ) (lane : CaptureReader A) (r : R) → slice_get lanes i ≡ Some lane → slice_get sources i ≡ Some r → IsOneAhead lane (remaining r) (texts lane.number) (taken lane.number)
 

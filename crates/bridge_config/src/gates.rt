@@ -73,8 +73,8 @@ fn has_only_gate_entry_keys(key: Field, table: &Table) -> bool
     has_allowed_entry_keys(get_value(table, key.key()), &GATE_ENTRY_KEYS)
 }
 
-/// Whether a `[[gate]]` table and the entries of its lists have only allowed keys; otherwise its fault is `UnknownKey`. `change` is the
-/// time of the schedule change in ns, if the plan has one.
+/// Whether a `[[gate]]` table and the entries of its lists have only allowed keys. Otherwise the table's fault is `UnknownKey`. `change` is
+/// the time of the schedule change in ns, if the plan has one.
 ///
 /// `read_gate` calls it.
 fn has_gate_keys(change: Option<u64>, table: &Table) -> bool

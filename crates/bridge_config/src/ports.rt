@@ -87,8 +87,8 @@ fn has_only_port_entry_keys(key: Field, table: &Table) -> bool
     has_allowed_entry_keys(get_value(table, key.key()), &PORT_ENTRY_KEYS)
 }
 
-/// Whether a `[[port]]` table and the entries of its lists have only allowed keys; otherwise its fault is `UnknownKey`. `change` is the
-/// time of the schedule change in ns, if the plan has one.
+/// Whether a `[[port]]` table and the entries of its lists have only allowed keys. Otherwise the table's fault is `UnknownKey`. `change` is
+/// the time of the schedule change in ns, if the plan has one.
 ///
 /// `read_port_by_lookup` calls it.
 fn has_port_keys(change: Option<u64>, table: &Table) -> bool

@@ -40,7 +40,8 @@ HasWritten old new frames = Appends old new (written_text frames) × All FitsRec
 abbrev pub AreWritten : {W : Type 0} → (W → Option (List ℕ)) → List ℕ → List W → List W → (ℕ → List CapturedFrame) → Type 0
 AreWritten {W} contents ports olds news left = (i q : ℕ) (old new : W) → slice_get ports i ≡ Some q → slice_get olds i ≡ Some old → slice_get news i ≡ Some new → HasWritten (contents old) (contents new) (left q)
 
--- Holds if every sink has its whole capture, except the sink of one existing port, which has a prefix of its capture.
+-- Holds if every sink has its whole capture, except the sink of one existing port. That sink has a prefix of the port's
+-- capture.
 pub record AreWrittenExceptOne {W : Type 0} (contents : W → Option (List ℕ)) (port : ℕ) (ports : List ℕ) (olds news : List W) (left : ℕ → List CapturedFrame) : Type 0 where
   pub place : ℕ
   pub there : slice_get ports place ≡ Some port

@@ -192,7 +192,7 @@ pub fn mark_drop_eligible(octets: &mut [u8]) -> bool
     true
 }
 
-/// A frame whose tag was marked drop eligible keeps its header, except this mark; a malformed frame keeps its fault. So the next bridge
+/// A frame whose tag was marked drop eligible keeps its header, except this mark. A malformed frame keeps its fault. So the next bridge
 /// reads a marked frame as this bridge does.
 pub fn marked_head()
     ensures head { (octets : List ℕ) (len : ℕ) (h : Head) → parsed_head octets len ≡ Ok h

@@ -27,7 +27,7 @@ pub enum Schedule<A: Allocator + Copy> {
     Joined(Joined<GateEntry, A>),
 }
 
-/// Settings of a stream gate: its schedule, and which refusals shut the gate until a command clears its flag.
+/// Settings of a stream gate: the schedule, and which refusals shut the gate until a command clears the gate's flag.
 #[derive(Drop)]
 pub struct GatePlan<A: Allocator + Copy> {
     /// Whether a frame at the closed gate shuts the gate until a command clears the receive flag.

@@ -135,8 +135,8 @@ pub record HasCopies {A : Type 0} (slots : List (Option (PortState A))) (set k :
 abbrev pub relay_before_frame : {G A : Type 0} → RelayState G A → RelayState G A
 relay_before_frame b = record b { arrived = b.arrived - 1 }
 
--- The VLAN, the priority and the drop eligible indication of a frame, by its tag or by its port's defaults `vid` and
--- `priority`.
+-- The VLAN, the priority and the drop eligible indication of a frame, by its tag or by the ingress port's defaults
+-- `vid` and `priority`.
 abbrev pub classify : Option Tag → ℕ → ℕ → (ℕ × ℕ × Bool)
 classify None vid priority = (vid, priority, false)
 classify (Some tag) vid priority = ((if nat_eq tag.vid 0 then vid else tag.vid), tag.pcp, tag.dei)

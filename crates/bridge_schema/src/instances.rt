@@ -16,7 +16,7 @@ pub trait SectionReader<A: Allocator + Copy> {
     /// Instance that a table describes, such as a port.
     type Instance;
 
-    /// Instance that a table describes, from the earlier instances, its index and its table; or its first fault.
+    /// Instance that a table describes, from the earlier instances, its index and its table; or the table's first fault.
     ghost reading: { Self → List Self.Instance → ℕ → Members → Result Self.Instance Self.Fault };
 
     /// Property of the list of instances read so far, such as different numbers. Each further instance keeps it.

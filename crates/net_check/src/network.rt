@@ -1,5 +1,5 @@
-//! The command `net check`: reads a network file and its plans, checks the network, and returns its lines. Other commands for networks read
-//! networks by the same functions.
+//! The command `net check`: reads a network file and its plans, checks the network, and returns the lines to print. Other commands for
+//! networks read networks by the same functions.
 ghost use Rattle.std.specs.Prelude.{◌≡◌, ◌≤◌, ℕ, All, List, None, Ok, Vec, length, map, IfOk, IfErr, OnOk, string_bytes};
 ghost use Rattle.bridge_config.specs.Model.{Plan};
 ghost use Rattle.net_file.specs.Document.{network_of_text};
@@ -387,7 +387,7 @@ pub struct NetworkOutput {
     pub kept: bool,
 }
 
-/// Returns the output of `net check` for an accepted network: its lines and its warnings. `network_job` calls it.
+/// Returns the output of `net check` for an accepted network: lines and warnings. `network_job` calls it.
 fn describe_network<A: Allocator + Copy>(
     alloc: A,
     heap: Global,

@@ -43,7 +43,8 @@ first_row_fault p index (r ∷ rs) = first_option (talker_row_fault p index r) (
 
 -- DELAYS
 
--- Holds if `xs` has the delays of row `index`: in the queues of its protected filter, or in the shared queues of its filter's group.
+-- Holds if `xs` has the delays of row `index`: in the queues of the row's protected filter, or in the shared queues of
+-- the group.
 abbrev pub AreTimingsOfRow : {A : Type 0} → Plan A → List QueueBound → List SharedQueue → ℕ → TalkerRow → List QueueTiming → Type 0
 AreTimingsOfRow p bounds shared index (row.Periodic r) xs = AreRowTimings p index r bounds xs
 AreTimingsOfRow p bounds shared index (row.Limited r) xs = AreLimitedTimings p index r shared xs

@@ -141,7 +141,7 @@ AreRowTimings p index r [] xs = xs ≡ []
 AreRowTimings p index r (b ∷ bs) xs =
     IfElse (nat_eq b.filter r.filter) (Begins (IsRowTiming p index r b) (AreRowTimings p index r bs) xs) (AreRowTimings p index r bs xs)
 
--- The results of a row: its delays in each queue, or one `Nowhere` if its filter has no reachable queue.
+-- The results of a row: the delays in each queue, or one `Nowhere` if the row's filter has no reachable queue.
 abbrev pub row_figures : ℕ → ℕ → List QueueTiming → List TrafficFigures
 row_figures row filter [] = figures.Nowhere row filter ∷ []
 row_figures row filter (x ∷ xs) = map figures.Queue (x ∷ xs)

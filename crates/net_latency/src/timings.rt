@@ -165,7 +165,7 @@ fn put_row<A: Allocator + Copy>(
     Ok(())
 }
 
-/// Returns the delays of row `index`: in the queues of its protected filter, or in the shared queues of its filter's group. `queue_timings`
+/// Returns the delays of row `index`: in the queues of the row's protected filter, or in the shared queues of the group. `queue_timings`
 /// calls it.
 fn talker_row_timings<A: Allocator + Copy>(
     alloc: A,

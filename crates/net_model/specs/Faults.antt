@@ -48,7 +48,7 @@ abbrev pub plan_port : {A : Type 0} → Option (Plan A) → ℕ → Option (Port
 plan_port None q = None
 plan_port (Some p) q = find_port p.ports q
 
--- The port that link end `e` names in the plans; `None` if its bridge or its port is missing.
+-- The port that link end `e` names in the plans; `None` if the bridge or the port is missing.
 abbrev pub end_port : {A : Type 0} → List (Plan A) → BridgePort → Option (PortPlan A)
 end_port plans e = plan_port (slice_get plans e.bridge) e.port
 
@@ -167,7 +167,8 @@ frames_test_fault n hop_test.Fed i hops k h next m = fault_unless (is_reached n 
 frames_test_fault n hop_test.Protected i hops k h next m = None
 frames_test_fault n hop_test.Unique i hops k h next m = None
 
--- The fault of `test` for hop `h`, index `k` in stream `i`, if its bridge exists and its protected filter names a handle; otherwise `None`.
+-- The fault of `test` for hop `h`, index `k` in stream `i`, if the hop's bridge exists and the protected filter names a
+-- handle. Otherwise `None`.
 abbrev pub hop_test_fault_by_handle : {A : Type 0} → NetworkParts A → HopTest → ℕ → List StreamHop → ℕ → StreamHop → Option (Plan A) → Option NetworkFault
 hop_test_fault_by_handle n test i hops k h None = None
 hop_test_fault_by_handle n test i hops k h (Some next) = if_some (frames_test_fault n test i hops k h next) (protected_handle next.filters h.filter)

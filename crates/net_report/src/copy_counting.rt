@@ -140,7 +140,7 @@ fn count_drops(tallies: &mut [CopyCounts], roots: &[Option<SourceFrame>], drops:
     }
 }
 
-/// Counts a frame as `Refused` for its first-hop frame `root`, unless its verdict is `Pass`. `count_verdicts` calls it.
+/// Counts a frame as `Refused` for its first-hop frame `root`, unless the verdict is `Pass`. `count_verdicts` calls it.
 fn count_verdict(tallies: &mut [CopyCounts], root: Option<SourceFrame>, verdict: Verdict)
     ensures { tallies.new ≡ spec.with_verdict tallies.old root verdict }
 {

@@ -34,7 +34,7 @@ fn arrival_time_or(origins: &[StoredOrigin], own: u64, other: u64) -> u64 {
     }
 }
 
-/// Draws the line of a copy that crosses a link, from its end of transmission to its arrival at the next hop. `put_link` calls it.
+/// Draws the line of a copy that crosses a link, from the end of transmission to the arrival at the next hop. `put_link` calls it.
 fn put_crossing(picture: &mut RunPicture, from: Point, to: Point) {
     picture.shapes.draw("link", Element::Line(from, to));
     picture.shapes.end_shape();

@@ -8,7 +8,7 @@ use bridge_limits::NoMemory;
 use bridge_text::{Said, TextBuilder, fill_with_word, finish_with_path, nearest_name, put_text};
 use std::alloc::Global;
 
-/// Returns the name of an option, with its `--` and without `=` and its value. Returns `None` if the argument isn't an option.
+/// Returns the name of an option, with the `--`, without `=` and the value. Returns `None` if the argument isn't an option.
 /// `unknown_option`, `first_operand` and 4 more call it.
 fn option_name(word: &str) -> Option<&str> {
     if !word.starts_with("--") || word == "--" {
@@ -176,8 +176,8 @@ fn called_option(part: &str) -> &str {
     }
 }
 
-/// Returns whether a command has option `name`, with its `--`, by its usage line. Every command has `--explain`. `option_fault` and
-/// `put_options` call it.
+/// Returns whether a command has option `name`, with the option's `--`, by the command's usage line. Every command has `--explain`.
+/// `option_fault` and `put_options` call it.
 fn has_option(call: &Usage, name: &str) -> bool {
     if name == "--explain" {
         return true;

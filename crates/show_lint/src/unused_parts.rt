@@ -65,7 +65,7 @@ fn is_entry_to_ingress(stream: &StreamEntry, entry: &StaticEntry) -> bool {
     entry.vid == stream.vid && entry.address == stream.address && entry.ports.has(stream.port)
 }
 
-/// Returns whether a stream is identified by destination, and its static entry names its ingress port. `find_streams` calls it.
+/// Returns whether a stream is identified by destination, and the static entry names the stream's ingress port. `find_streams` calls it.
 fn is_sent_to_ingress(stream: &StreamEntry, statics: &[StaticEntry]) -> bool {
     match stream.kind {
         Kind::Null => statics
@@ -101,7 +101,7 @@ fn are_strays<A: Allocator + Copy>(plan: &Plan<A>, handle: u32) -> bool {
     is_asked
 }
 
-/// Adds a warning for each stream whose static entry names its ingress port, unless its filters only refuse stray frames.
+/// Adds a warning for each stream whose static entry names the stream's ingress port, unless the stream's filters only refuse stray frames.
 /// `find_unused_parts` calls it.
 fn find_streams<A: Allocator + Copy>(
     found: &mut Vec<Warning>,
