@@ -152,7 +152,8 @@ pub enum Said {
     Noted(String),
 }
 
-/// Returns whether an argument stands for standard input or output. Functions of `app_commands` and `app_networks` call it.
+/// Returns whether an argument stands for standard input or output. `check_input` of `app_commands`, `draw_network` of `app_networks` and 6
+/// more call it.
 pub fn is_standard(word: &str) -> bool
     ensures { IsTrue result ↔ IsStandard word.now }
 {

@@ -160,7 +160,7 @@ fn can_pass_schedule<A: Allocator + Copy>(
 /// Whether `filter` passes each own frame if these frames keep `traffic`. Their size must be allowed, the filter must have no meter, and
 /// its stream gate must pass each frame.
 ///
-/// Functions of `net_check` and `net_latency` call it.
+/// `passes_hop` of `net_check`, `hop_passes` of `net_latency` and 4 more call it.
 pub fn passes<A: Allocator + Copy>(plan: &Plan<A>, filter: &FilterPlan, traffic: &Traffic) -> bool
     requires traffic { IsTraffic traffic.now }
     ensures { (result ≡ true) ↔ Passes plan.now filter.now traffic.now }

@@ -185,8 +185,8 @@ pub fn filter_reach<A: Allocator + Copy>(plan: &Plan<A>, filter: &FilterPlan) ->
     }
 }
 
-/// Whether the frames of `filter` can enter the queue of class `class` at port `port`, 1 to 16. Functions of `bridge_bounds`,
-/// `bridge_groups`, `show_lint` and other crates call it.
+/// Whether the frames of `filter` can enter the queue of class `class` at port `port`, 1 to 16. `queue_bound` of `bridge_bounds`,
+/// `gate_work_bound` of `bridge_groups` and 6 more call it.
 #[tactic(auto, using(crate::proofs::Told::unreached, crate::proofs::Told::in_reach))]
 pub fn can_wait<A: Allocator + Copy>(
     plan: &Plan<A>,

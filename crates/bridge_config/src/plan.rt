@@ -72,7 +72,7 @@ impl<A: Allocator + Copy> Model for Plan<A> {
 }
 
 impl<A: Allocator + Copy> Plan<A> {
-    /// Returns the ports, in file order. Functions of `app_commands`, `bridge_check`, `bridge_relay` and other crates call it.
+    /// Returns the ports, in file order. `note_captures` of `app_commands`, `check` of `bridge_check` and many more call it.
     pub fn ports(&self) -> &[PortPlan<A>]
         ensures ports { result.now ≡ self.now.ports }
         ensures rules { rules.IsPlan self.now }
@@ -88,8 +88,8 @@ impl<A: Allocator + Copy> Plan<A> {
         find_port(&self.ports, number)
     }
 
-    /// Returns the numbers of the ports in rising order. Functions of `app_commands`, `app_networks`, `bridge_core` and other crates call
-    /// it.
+    /// Returns the numbers of the ports in rising order. `send_named` of `app_commands`, `read_bridge_input` of `app_networks` and 5 more
+    /// call it.
     pub fn port_numbers<B: Allocator + Copy>(&self, alloc: B) -> Result<Vec<u8, B>, NoMemory>
         ensures { IfOk result (λ v. rules.IsSortedCopy (map (λ p. p.number) self.now.ports) v.items) }
     {
@@ -312,7 +312,8 @@ pub(crate) fn read_document(heap: Global, text: &[u8]) -> Result<Table, PlanFaul
 /// Order of faults: `TooLong`, `Syntax`, an unknown section, then `NotAList`, `TooMany` and `NoPorts` of the sections, then each
 /// instance key by key.
 ///
-/// Sections follow the order of `PLAN_SECTIONS`. Functions of `app_commands`, `app_failure` and `app_networks` call it.
+/// Sections follow the order of `PLAN_SECTIONS`. `explain_check_fault` of `app_commands`, `accepted_plan` of `app_failure` and 2 more call
+/// it.
 pub fn plan_of<A: Allocator + Copy>(
     alloc: A,
     heap: Global,

@@ -19,7 +19,7 @@ pub fn is_open(state: u8, class: u8) -> bool
 }
 
 /// Returns the earliest time in ns, `from` or later, at which a transmission of `occ` ns fits, because `class` stays open (IEEE
-/// 802.1Q-2018, 8.6.8.4). Functions of `bridge_bounds`, `bridge_groups`, `bridge_port` and other crates call it.
+/// 802.1Q-2018, 8.6.8.4). `list_first_fit` of `bridge_bounds`, `next_fit_run` of `bridge_groups` and 3 more call it.
 pub fn first_fit<L: Timeline<State = u8>>(timeline: &L, class: u8, occ: u64, from: u64) -> u64
     requires class { class < 8 }
     requires occ { occ ≤ LONGEST_CYCLE }

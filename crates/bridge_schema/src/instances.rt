@@ -37,7 +37,7 @@ pub trait SectionReader<A: Allocator + Copy> {
 }
 
 /// Reads the instances of a section in order, one from each table, or returns the first fault. `Keeps` must hold for the empty list.
-/// Functions of `bridge_config` and `net_file` call it.
+/// `commands_of` of `bridge_config`, `read_sections` of `net_file` and 4 more call it.
 pub fn read_instances<A: Allocator + Copy, S: SectionReader<A>>(
     alloc: A,
     section: &S,

@@ -99,8 +99,8 @@ pub record IsFilterView {A : Type 0} (p : Plan A) (s : ℕ) (f : FilterPlan) (es
 abbrev pub IsPortCopy : (ℕ → List (Copy CarriedFrame)) → ℕ → Copy CarriedFrame → Type 0
 IsPortCopy lists q x = IsMember x (lists q)
 
--- Holds if the copies `lists q` of each port `q` are exactly the port's offers, and obey the port's rules up to time
--- `moments q` in ns. A missing port has no copies.
+-- Holds if the copies `lists q` of each port `q` are exactly the port's offers, and obey its rules up to time `moments
+-- q` in ns. A missing port has no copies.
 pub record IsRun {A : Type 0} (p : Plan A) (es : List Event) (moments : ℕ → ℕ) (lists : ℕ → List (Copy CarriedFrame)) : Type 0 where
   pub offers : (q : ℕ) (out : PortPlan A) → find_port p.ports q ≡ Some out → copy_offers (lists q) ≡ port_offers p out es
   pub lawful : (q : ℕ) (out : PortPlan A) → find_port p.ports q ≡ Some out → IsLawful (egress_rules out) (moments q) (lists q)

@@ -48,7 +48,9 @@ pub fn table_value<'a>(table: Option<&'a Table>, key: &str) -> Option<&'a Value>
 }
 
 /// Returns the value as a number if it is an integer of at least 0; otherwise `None`. Explanations of faults read the numbers in a file by
-/// it. Functions of `show_explain` call it.
+/// it.
+///
+/// `entry_interval` and `is_list_refused` of `show_explain`, and 5 more call it.
 pub fn unsigned_number(value: Option<&Value>) -> Option<u64> {
     match value {
         Some(Value::Integer(number)) if *number >= 0 => Some(*number as u64),

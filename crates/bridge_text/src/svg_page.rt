@@ -96,8 +96,8 @@ impl Page {
         self.shapes.begin_text(style, (x, y));
     }
 
-    /// Moves down by `by` (tenths of a pixel), and begins a line of text at the left end of the time axis. Functions of `show_picture` call
-    /// it.
+    /// Moves down by `by` (tenths of a pixel), and begins a line of text at the left end of the time axis. `begin_head` and `put_selection`
+    /// of `show_picture`, and 2 more call it.
     pub fn begin_text_line(&mut self, style: &str, by: u64) {
         self.skip_height(by);
         self.begin_text(style, AXIS_LEFT, self.bottom);

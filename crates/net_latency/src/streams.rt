@@ -24,7 +24,9 @@ use net_model::Network;
 use std::alloc::Allocator;
 
 /// Returns for each plan the least delay bounds of its reachable queues, in the order of `plans`. `net check` computes them once for all
-/// streams. Functions of `app_networks` and `net_check` call it.
+/// streams.
+///
+/// `draw_with_bounds` of `app_networks`, `explain_network_streams` of `net_check` and 3 more call it.
 pub fn all_queue_bounds<A: Allocator + Copy>(
     alloc: A,
     plans: &[Accepted<A>],
