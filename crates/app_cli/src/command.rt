@@ -409,7 +409,7 @@ const VERSION: &str = "1.0.0";
 /// Number of commands.
 pub const COMMANDS: usize = 6;
 
-/// Returns the command at index `place`, in the order of the help; `None` after the last. `push_command_help`, `find_usage` and others call
+/// Returns the command at index `place`, in the order of the help; `None` after the last. `push_command_help`, `find_usage` and 3 more call
 /// it.
 pub fn command_description(place: usize) -> Option<&'static Description> {
     match place {

@@ -15,7 +15,7 @@ use std::alloc::Global;
 /// Returns the requested text: help of the program (`--help`, `-h`, `help`), help of a command, or version (`--version`, `-V`). Returns
 /// `None` if the arguments request none.
 ///
-/// Arguments that request a text request no command. `push_help` and `perform` of `app_networks` call it.
+/// Arguments that request a text request no command. Fails only if memory runs out. `push_help` and `perform` of `app_networks` call it.
 #[tactic(auto, using(crate::proofs::Asked::no_job))]
 pub fn requested_help(alloc: Global, words: &[String]) -> Result<Option<String>, ArgumentsFault>
     ensures asked { IfOk result (λ text. IfSome text (λ _. IsHelp (fault_of commands (map string_bytes words.now)))) }

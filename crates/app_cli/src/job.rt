@@ -95,8 +95,8 @@ pub fn parse_job(alloc: Global, words: &[String]) -> Result<Command, ArgumentsFa
     }
 }
 
-/// Returns the command that `matches` names, with its values from `clap`. At least one argument is required. `parse_job` and
-/// `request_by_matches` call it.
+/// Returns the command that `matches` names, with its values from `clap`. At least one argument is required. Fails with `Words` if the
+/// arguments request no valid command, or with `NoMemory`. `parse_job` and `request_by_matches` call it.
 pub(crate) fn job_by_matches(
     alloc: Global,
     words: &[String],
@@ -115,8 +115,8 @@ pub(crate) fn job_by_matches(
     }
 }
 
-/// Returns the requested command with the values `values` that `clap` found; `name` is the command's name in the arguments.
-/// `job_by_matches` calls it.
+/// Returns the requested command with the values `values` that `clap` found; `name` is the command's name in the arguments. Fails with
+/// `Words` if the arguments request no valid command, or with `NoMemory`. `job_by_matches` calls it.
 fn job_by_command(
     alloc: Global,
     words: &[String],
@@ -178,7 +178,8 @@ fn wire_job(alloc: Global, values: &ArgMatches) -> Result<Command, ArgumentsFaul
     })
 }
 
-/// Returns the command `check` with the values that `clap` found. `job_by_command` calls it.
+/// Returns the command `check` with the values that `clap` found. Fails with `Words` if the arguments request no valid command, or with
+/// `NoMemory`. `job_by_command` calls it.
 fn check_job(alloc: Global, values: &ArgMatches) -> Result<Command, ArgumentsFault>
     ensures ok { IfOk result (IsCheckJob (rows_of (found_of values.now))) }
     ensures room { IfOk result HasRoom }
@@ -191,7 +192,8 @@ fn check_job(alloc: Global, values: &ArgMatches) -> Result<Command, ArgumentsFau
     }
 }
 
-/// Returns the command `run` with the values that `clap` found. `job_by_command` calls it.
+/// Returns the command `run` with the values that `clap` found. Fails with `Words` if the arguments request no valid command, or with
+/// `NoMemory`. `job_by_command` calls it.
 fn run_job(alloc: Global, values: &ArgMatches) -> Result<Command, ArgumentsFault>
     ensures ok { IfOk result (IsRunJob (rows_of (found_of values.now))) }
     ensures room { IfOk result HasRoom }
@@ -222,7 +224,8 @@ fn run_job(alloc: Global, values: &ArgMatches) -> Result<Command, ArgumentsFault
     })
 }
 
-/// Returns the command `picture` with the values that `clap` found. `job_by_command` calls it.
+/// Returns the command `picture` with the values that `clap` found. Fails with `Words` if the arguments request no valid command, or with
+/// `NoMemory`. `job_by_command` calls it.
 fn picture_job(alloc: Global, values: &ArgMatches) -> Result<Command, ArgumentsFault>
     ensures ok { IfOk result (IsPictureJob (rows_of (found_of values.now))) }
     ensures room { IfOk result HasRoom }
@@ -240,7 +243,8 @@ fn picture_job(alloc: Global, values: &ArgMatches) -> Result<Command, ArgumentsF
     Ok(Command::Picture { plan, file })
 }
 
-/// Returns the command `bounds` with the values that `clap` found. `job_by_command` calls it.
+/// Returns the command `bounds` with the values that `clap` found. Fails with `Words` if the arguments request no valid command, or with
+/// `NoMemory`. `job_by_command` calls it.
 fn bounds_job(alloc: Global, values: &ArgMatches) -> Result<Command, ArgumentsFault>
     ensures ok { IfOk result (IsBoundsJob (rows_of (found_of values.now))) }
     ensures room { IfOk result HasRoom }
@@ -258,7 +262,9 @@ fn bounds_job(alloc: Global, values: &ArgMatches) -> Result<Command, ArgumentsFa
     Ok(Command::Bounds { plan, traffic })
 }
 
-/// Returns the command `net` with the values that `clap` found: a network run if there are three arguments, otherwise a check.
+/// Returns the command `net` with the values that `clap` found: a network run if there are three arguments, otherwise a check. Fails with
+/// `Words` if the arguments request no valid command, or with `NoMemory`.
+///
 /// `job_by_command` calls it.
 fn network_job(alloc: Global, values: &ArgMatches) -> Result<Command, ArgumentsFault>
     ensures ok { IfOk result (IsNetworkJob (rows_of (found_of values.now))) }
@@ -298,7 +304,8 @@ fn network_check_job(alloc: Global, values: &ArgMatches) -> Result<Command, Argu
     }
 }
 
-/// Returns the command `net` with the values that `clap` found: a network run into the folder `to_folder`. `network_job` calls it.
+/// Returns the command `net` with the values that `clap` found: a network run into the folder `to_folder`. Fails with `Words` if the
+/// arguments request no valid command, or with `NoMemory`. `network_job` calls it.
 fn network_run_job(
     alloc: Global,
     values: &ArgMatches,
@@ -333,7 +340,7 @@ fn network_run_job(
     })
 }
 
-/// Returns the value that `clap` found for argument or option `name`, or `None` if it is absent. `wire_job`, `network_job` and others call
+/// Returns the value that `clap` found for argument or option `name`, or `None` if it is absent. `wire_job`, `network_job` and 8 more call
 /// it.
 pub(crate) fn argument_value<'a>(values: &ArgMatches<'a>, name: &str) -> Option<&'a str>
     ensures { option_map (λ s. s.now) result ≡ first_of name.now (rows_of (found_of values.now)) }
@@ -341,7 +348,7 @@ pub(crate) fn argument_value<'a>(values: &ArgMatches<'a>, name: &str) -> Option<
     values.get_str(name)
 }
 
-/// Copies the value of argument `name`. Fails with `Words` if it is missing. `wire_job`, `check_job` and others call it.
+/// Copies the value of argument `name`. Fails with `Words` if it is missing. `wire_job`, `check_job` and 5 more call it.
 fn required_text(alloc: Global, values: &ArgMatches, name: &str) -> Result<String, ArgumentsFault>
     ensures value { IfOk result (λ t. first_of name.now (rows_of (found_of values.now)) ≡ Some (string_bytes t)) }
     ensures none { result ≡ Err ArgumentsFault.Words → first_of name.now (rows_of (found_of values.now)) ≡ None }
@@ -355,7 +362,8 @@ fn required_text(alloc: Global, values: &ArgMatches, name: &str) -> Result<Strin
     }
 }
 
-/// Copies the value of argument `name`. Returns `None` if it is absent. `run_job`, `bounds_job` and others call it.
+/// Copies the value of argument `name`. Returns `None` if it is absent. Fails only if memory runs out. `run_job`, `bounds_job` and 3 more
+/// call it.
 pub(crate) fn optional_text(
     alloc: Global,
     values: &ArgMatches,
@@ -374,7 +382,7 @@ pub(crate) fn optional_text(
 }
 
 /// Returns the fault of arguments that `clap` refuses: `NoMemory` if memory ran out, otherwise `Words`. `parse_job`,
-/// `parse_picture_request` and others call it.
+/// `parse_picture_request` and 2 more call it.
 pub(crate) fn argument_fault(error: &Error) -> ArgumentsFault
     ensures { result ≡ fault_of_kind (kind_of error.now) }
 {

@@ -7,6 +7,7 @@ use crate::words_fault::ArgumentsFault;
 use std::alloc::{AllocError, Global};
 
 /// Returns the help of the program and of each command, each after the line that requests it. Tests and the page Commands are made from it.
+/// Fails only if memory runs out.
 pub fn help_text(alloc: Global) -> Result<String, ArgumentsFault>
     ensures { IfErr result (λ fault. fault ≡ ArgumentsFault.NoMemory) }
 {
@@ -16,7 +17,7 @@ pub fn help_text(alloc: Global) -> Result<String, ArgumentsFault>
     Ok(manual)
 }
 
-/// Appends the help of each command to `manual`, each after an empty line. `help_text` calls it.
+/// Appends the help of each command to `manual`, each after an empty line. Fails only if memory runs out. `help_text` calls it.
 fn push_command_help(alloc: Global, manual: &mut String) -> Result<(), ArgumentsFault>
     ensures { IfErr result (λ fault. fault ≡ ArgumentsFault.NoMemory) }
 {
@@ -29,7 +30,7 @@ fn push_command_help(alloc: Global, manual: &mut String) -> Result<(), Arguments
     Ok(())
 }
 
-/// Appends the line of a call, such as `$ tsnbridge check --help`, and the help that it requests.
+/// Appends the line of a call, such as `$ tsnbridge check --help`, and the help that it requests. Fails only if memory runs out.
 fn push_help(alloc: Global, manual: &mut String, line: &[&str]) -> Result<(), ArgumentsFault>
     ensures { IfErr result (λ fault. fault ≡ ArgumentsFault.NoMemory) }
 {

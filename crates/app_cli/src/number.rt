@@ -11,7 +11,7 @@ use bridge_port::LARGEST_ROOM;
 use std::alloc::{AllocError, Global};
 
 /// Reads a number below 2^32 from one or more decimal digits. Returns `None` for a sign, other characters, or a larger number.
-/// `parse_room`, `parse_speed` and others call it.
+/// `parse_room`, `parse_speed` and 2 more call it.
 fn parse_number(word: &str) -> Option<u32>
     ensures { SomeIff result (IsNumeral 10 word.now × (digits_value 10 word.now < 2 ^ 32)) (digits_value 10 word.now) }
 {

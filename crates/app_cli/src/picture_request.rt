@@ -49,8 +49,8 @@ pub fn parse_picture_request(
     }
 }
 
-/// Returns the requested picture, by the values that `clap` found. Returns `None` for commands without picture options.
-/// `parse_picture_request` and `request_by_matches` call it.
+/// Returns the requested picture, by the values that `clap` found. Returns `None` for commands without picture options. Fails with `Words`
+/// if an option has a wrong value, or with `NoMemory`. `parse_picture_request` and `request_by_matches` call it.
 pub(crate) fn picture_by_matches(
     alloc: Global,
     words: &[String],
@@ -106,7 +106,8 @@ fn run_picture(alloc: Global, values: &ArgMatches) -> Result<Option<PictureReque
     }
 }
 
-/// Returns the requested part of a plan's picture, or `None` for the whole plan. `picture_by_matches` calls it.
+/// Returns the requested part of a plan's picture, or `None` for the whole plan. Fails with `Words` if an option has a wrong value, or with
+/// `NoMemory`. `picture_by_matches` calls it.
 fn plan_picture(
     alloc: Global,
     values: &ArgMatches,
@@ -126,8 +127,10 @@ fn plan_picture(
     }
 }
 
-/// Returns the picture with the options that `clap` found. `path` is the value of argument `name`, the picture's file. `run_picture` and
-/// `plan_picture` call it.
+/// Returns the picture with the options that `clap` found. `path` is the value of argument `name`, the picture's file. Fails with `Words`
+/// if an option has a wrong value, or with `NoMemory`.
+///
+/// `run_picture` and `plan_picture` call it.
 fn read_picture_options(
     alloc: Global,
     values: &ArgMatches,
@@ -196,7 +199,7 @@ fn optional_time(values: &ArgMatches, name: &str) -> Option<Option<u64>>
     }
 }
 
-/// Returns whether `from` is before `to`. Returns true if one of them is absent. `read_picture_options` calls it.
+/// Returns whether the time `from` is before `to`, both in ns. Returns true if one of them is absent. `read_picture_options` calls it.
 fn are_in_order(from: Option<u64>, to: Option<u64>) -> bool
     ensures order { IsTrue result → AreInOrder from to }
     ensures given { result ≡ false → from ≢ None }

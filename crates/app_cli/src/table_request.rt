@@ -35,8 +35,8 @@ pub fn parse_table_request(alloc: Global, words: &[String]) -> Result<TableReque
     }
 }
 
-/// Returns the requested tables of a run, by the values that `clap` found. Other commands have no tables. `request_by_matches` and
-/// `parse_table_request` call it.
+/// Returns the requested tables of a run, by the values that `clap` found. Other commands have no tables. Fails only if memory runs out.
+/// `request_by_matches` and `parse_table_request` call it.
 pub(crate) fn tables_by_matches(
     alloc: Global,
     words: &[String],
@@ -57,7 +57,7 @@ pub(crate) fn tables_by_matches(
     }
 }
 
-/// Returns the tables that the options `--delays` and `--frames` request. `tables_by_matches` calls it.
+/// Returns the tables that the options `--delays` and `--frames` request. Fails only if memory runs out. `tables_by_matches` calls it.
 fn read_table_options(alloc: Global, values: &ArgMatches) -> Result<TableRequest, ArgumentsFault>
     ensures ok { IfOk result (AsksForTables (rows_of (found_of values.now))) }
     ensures memory { IfErr result (λ fault. fault ≡ ArgumentsFault.NoMemory) }

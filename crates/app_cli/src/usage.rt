@@ -37,7 +37,7 @@ fn usage_of_command(command: &'static Description) -> Usage {
     }
 }
 
-/// Returns the usage of the command with name `name`, or `None` if there is no such command. `put_usage` and `put_command_refusal` of
+/// Returns the usage of the command with name `name`; `None` if no command has this name. `put_usage` and `put_command_refusal` of
 /// `show_explain` call it.
 pub fn find_usage(name: &str) -> Option<Usage> {
     for place in 0..COMMANDS {

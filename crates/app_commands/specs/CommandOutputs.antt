@@ -45,8 +45,10 @@ IsCheckOutput strict explained output =
 
 -- RUN
 
--- Holds if the program prints the line of a complete run, the text about its plan, and lines of lost frames if losses are errors. The
--- status is 1 exactly if there are such lines.
+-- Holds if the program prints the line of a complete run, the text about its plan, and lines of lost frames if losses
+-- are errors.
+--
+-- The status is 1 exactly if there are lines of lost frames.
 abbrev pub IsDoneRun : List ℕ → List ℕ → Bool → Bool → Output → Type 0
 IsDoneRun input folder strict explained output =
     (line : List ℕ) × (notes : List ℕ) × (lost : List ℕ) × (lossy : Bool) × PrintsRun Global line × HavePaths input folder × AreNotes strict explained notes false

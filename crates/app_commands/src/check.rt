@@ -32,7 +32,8 @@ pub struct CheckedPlan {
 
 /// Checks the plan at path `plan`, or on standard input for `-`. The status is 1 if warnings are errors and the plan has one.
 ///
-/// Reads the plan once, so it may be a pipe. Keeps its text in `texts`. `run_request` of `app_networks` calls it.
+/// Reads the plan once, so it may be a pipe. Keeps its text in `texts`. Fails if the plan can't be read, is refused or doesn't isolate a
+/// protected filter. `run_request` of `app_networks` calls it.
 pub fn check_plan<H: Input + AllocGlobal + Files>(
     files: &mut CommandFiles<'_, H>,
     plan: &str,
@@ -58,8 +59,9 @@ pub fn check_plan<H: Input + AllocGlobal + Files>(
     }
 }
 
-/// Checks the plan at path `plan`, or on standard input for `-`, and returns its line and notes. Stores its text in `texts`. `check_plan`
-/// calls it.
+/// Checks the plan at path `plan`, or on standard input for `-`, and returns its line and notes. Stores its text in `texts`.
+///
+/// Fails if the plan can't be read, is refused or doesn't isolate a protected filter. `check_plan` calls it.
 fn check_input<H: Input + AllocGlobal + Files>(
     files: &mut CommandFiles<'_, H>,
     plan: &str,
@@ -90,7 +92,10 @@ fn check_input<H: Input + AllocGlobal + Files>(
     }
 }
 
-/// Checks the plan of the file at `path`, and returns its line and notes. Stores its text in `texts`. `check_input` calls it.
+/// Checks the plan of the file at `path`, and returns its line and notes. Stores its text in `texts`. Fails if the plan can't be read, is
+/// refused or doesn't isolate a protected filter.
+///
+/// `check_input` calls it.
 fn check_file<F: ReadFiles>(
     alloc: Global,
     files: &mut F,

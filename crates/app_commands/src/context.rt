@@ -15,7 +15,7 @@ pub struct RunRequest<'a> {
     pub commands: &'a Option<String>,
     /// Tables that the arguments request.
     pub tables: &'a TableRequest,
-    /// Requested picture, or `None`.
+    /// Requested picture. `None` if the arguments request none.
     pub picture: &'a Option<PictureRequest>,
 }
 

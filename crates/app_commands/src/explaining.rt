@@ -31,10 +31,9 @@ pub fn explain_words_fault(alloc: Global, words: &[String], fault: &Failure) -> 
     }
 }
 
-/// Explains why a file failed, if `fault` is such a failure: it has the path and the cause. Returns `None` for other failures, or if memory
-/// runs out.
+/// Explains a failed file (`Failure::File`) by its path and cause. Returns `None` for other failures, or if memory runs out.
 ///
-/// `explain_words_fault`, `explain_plan_fault` and functions of `app_networks` call it.
+/// `explain_words_fault`, `explain_plan_fault`, `explain_wire_fault`, and `explain_network_file` of `app_networks` call it.
 pub fn explain_file_fault(alloc: Global, fault: &Failure) -> Option<String> {
     match fault {
         Failure::File(error) => explain_file_cause(alloc, error.path(), error.cause()),
@@ -50,7 +49,9 @@ pub fn explain_file_cause(alloc: Global, path: &str, cause: Cause) -> Option<Str
 }
 
 /// Explains why the plan at `path` with the contents `text` is refused, or why its file failed. Returns `None` for other failures, or if
-/// memory runs out. `explain_run_fault` and functions of `app_networks` call it.
+/// memory runs out.
+///
+/// `explain_run_fault`, `explain_bridge_plan` of `app_networks` and 3 more call it.
 pub fn explain_plan_fault(
     alloc: Global,
     path: &str,

@@ -20,7 +20,9 @@ use std::alloc::Allocator;
 const ROOM: u16 = 4;
 
 /// Sends a capture in hexadecimal text through one queue of 4 frames at 1,000 Mb/s. Returns the output capture as lower-case hexadecimal
-/// text, one line for the header and each record. `text_job` calls it.
+/// text, one line for the header and each record.
+///
+/// Fails if the text or its capture is refused, or if memory runs out. `text_job` calls it.
 pub fn wire_text<A: Allocator + Copy>(alloc: A, text: &[u8]) -> Result<String<A>, TextFault>
     ensures ok { IfOk result (λ lines. (octets : List ℕ) × (spelled_octets text.now ≡ Ok octets)
         × IsTextRun octets (string_bytes lines)) }
@@ -65,6 +67,8 @@ fn text_fault(fault: HexFault) -> TextFault
 
 /// Carries out a call without arguments: sends a capture as hexadecimal text from standard input through one queue. Returns the output
 /// capture's text as output.
+///
+/// Fails if standard input can't be read, or if its text or capture is refused.
 pub fn send_text(rt: &(impl Input + AllocGlobal)) -> Result<Output, Failure>
     ensures ok { IfOk result IsTextOutput }
     ensures fails { IfErr result FailsText }

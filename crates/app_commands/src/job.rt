@@ -28,7 +28,7 @@ use std::rt::{Clock, Files};
 pub(crate) struct RunLines {
     /// Line of counts of the run.
     pub(crate) line: String,
-    /// One line for each protected filter that lost a frame or a copy, if losses are errors.
+    /// One `lost:` line for each protected filter that lost a frame or a copy, if losses are errors.
     pub(crate) lost: String,
     /// Whether losses are errors and a protected filter lost a frame or a copy.
     pub(crate) is_lossy: bool,
@@ -69,7 +69,8 @@ pub(crate) fn run_with_outputs<H: AllocGlobal + Clock + Eprint + Files>(
     told
 }
 
-/// Writes the requested tables, then the requested picture of a run, and returns the run's lines. `run_with_outputs` calls it.
+/// Writes the requested tables, then the requested picture of a run, and returns the run's lines. Fails if a table or the picture can't be
+/// written. `run_with_outputs` calls it.
 fn write_outputs<H: AllocGlobal + Files>(
     files: &mut CommandFiles<'_, H>,
     accepted: &Accepted<Global>,
@@ -92,7 +93,8 @@ fn write_outputs<H: AllocGlobal + Files>(
     write_run_picture(files, accepted, outcome, job, flags)
 }
 
-/// Writes the requested picture of a run, if any, and returns the run's lines. `write_outputs` calls it.
+/// Writes the requested picture of a run, if any, and returns the run's lines. Fails if the picture can't be written. `write_outputs` calls
+/// it.
 fn write_run_picture<H: AllocGlobal + Files>(
     files: &mut CommandFiles<'_, H>,
     accepted: &Accepted<Global>,
@@ -131,7 +133,7 @@ fn write_run_picture<H: AllocGlobal + Files>(
     })
 }
 
-/// Returns one line for each protected filter that lost a frame or a copy, if losses are errors; otherwise the empty text.
+/// Returns one `lost:` line for each protected filter that lost a frame or a copy, if losses are errors; otherwise the empty text.
 /// `write_run_picture` calls it.
 fn lost_if(alloc: Global, outcome: &Outcome<Global>, is_strict: bool) -> Result<String, NoMemory>
     ensures { IfOk result (λ lost. string_bytes lost ≡ lost_if is_strict outcome.now.filters.items) }

@@ -16,7 +16,10 @@ use std::io::{Read, Write};
 /// cut.
 const MOST_INPUT: u64 = 4_194_305;
 
-/// Reads hexadecimal text from a reader, sends its capture through one queue, and returns the output capture as text. `send_text` calls it.
+/// Reads hexadecimal text from a reader, sends its capture through one queue, and returns the output capture as text. Fails if the text
+/// can't be read, or if the text or its capture is refused.
+///
+/// `send_text` calls it.
 pub fn text_job<R: Read + Drop>(alloc: Global, reader: R) -> Result<String, Failure>
     ensures ok { (input : List ℕ) → R.remaining reader ≡ Some input
         → IfOk result (λ lines. PrintsText input (string_bytes lines)) }
@@ -35,7 +38,8 @@ pub fn text_job<R: Read + Drop>(alloc: Global, reader: R) -> Result<String, Fail
 }
 
 /// Sends a reader's capture through one queue of `room` frames (1 to 4,096) into a writer. Returns the line of counts and the writer.
-/// `wire_streams` calls it.
+///
+/// Fails if the capture is refused, or if the reader or the writer fails. `wire_streams` calls it.
 pub fn wire_job<R: Read + Drop, W: Write + Drop>(
     alloc: Global,
     speed: Speed,

@@ -32,8 +32,8 @@ pub(crate) fn plan_notes(
     Ok((notes, is_warned))
 }
 
-/// Returns the line of a schedule change without effect, or `None`. Searches only if warnings are errors or an explanation is requested.
-/// `check_of_accepted` and `run_job` call it.
+/// Returns the line of a schedule change without effect. `None` if every change has an effect, or if neither errors from warnings nor an
+/// explanation is requested. `check_of_accepted` and `run_job` call it.
 pub(crate) fn idle_line(text: &[u8], accepted: &Accepted<Global>, flags: Flags) -> Option<usize> {
     if flags.is_strict || flags.is_explained {
         idle_change(text, accepted.plan())

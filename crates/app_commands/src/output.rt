@@ -17,7 +17,7 @@ pub struct Output {
     pub status: u8,
 }
 
-/// Returns the output of a failure: its fault line and the explanation for standard error, and its exit status.
+/// Returns the output of a failure: the fault line and the explanation for standard error, and the exit status.
 ///
 /// If memory for the explanation runs out, the output has none. `report_words` and `report_failure` of `app_networks` call it.
 pub fn report_fault(
@@ -52,8 +52,8 @@ fn with_explanation(line: String, explanation: Option<String>) -> Result<String,
     Ok(text)
 }
 
-/// Returns an output with this text for standard output and nothing for standard error. `send_text`, `draw_plan` and functions of
-/// `app_networks` call it.
+/// Returns an output with this text for standard output and nothing for standard error. `send_text`, `draw_network` of `app_networks` and 2
+/// more call it.
 pub fn print_text(alloc: Global, text: String, status: u8) -> Output
     ensures text { result.stdout ≡ text }
     ensures none { string_bytes result.stderr ≡ [] }

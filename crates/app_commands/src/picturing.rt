@@ -18,6 +18,8 @@ use std::rt::Files;
 
 /// Returns the picture of a plan, or of a requested part, whether or not the plan isolates its protected filters. Adds the plan to the
 /// files in use.
+///
+/// Fails if the plan can't be read or is refused.
 pub(crate) fn plan_picture<F: ReadFiles>(
     alloc: Global,
     files: &mut F,
@@ -151,8 +153,9 @@ pub(crate) fn put_run_picture<H: AllocGlobal + Files>(
     }
 }
 
-/// Writes a picture to the file at `path`, which must not be in use, and returns the file. `draw_plan` and `put_run_picture`, and
-/// `draw_network` of `app_networks` call it.
+/// Writes a picture to the file at `path`, which must not be in use, and returns the file. Fails if the file is in use or can't be written.
+///
+/// `draw_plan` and `put_run_picture`, and `draw_network` of `app_networks` call it.
 pub fn write_picture_file<H: AllocGlobal + Files>(
     files: &CommandFiles<'_, H>,
     path: &str,

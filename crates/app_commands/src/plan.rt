@@ -12,7 +12,7 @@ use std::fs;
 use std::io::Read;
 use std::rt::Files;
 
-/// Reads at most 1,048,577 octets of the file at `path`.
+/// Reads at most 1,048,577 octets of the file at `path`. Fails if the file can't be read.
 pub fn read_file_text<F: ReadFiles>(files: &mut F, path: &str) -> Result<Vec<u8>, Failure>
     ensures text { IfOk result (λ text. IsTextAt (F.octets_at files.old) path.now text.items) }
     ensures fails { IfErr result (IsFileFault Reading path.now) }
@@ -24,7 +24,7 @@ pub fn read_file_text<F: ReadFiles>(files: &mut F, path: &str) -> Result<Vec<u8>
     }
 }
 
-/// Reads at most `most` octets of standard input. `check_input` and `text_job` call it.
+/// Reads at most `most` octets of standard input. Fails if standard input can't be read. `check_input` and `text_job` call it.
 pub(crate) fn read_standard_text<R: Read + Drop>(
     alloc: Global,
     reader: R,

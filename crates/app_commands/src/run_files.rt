@@ -56,7 +56,8 @@ pub fn run_folder<H: AllocGlobal + Clock + Eprint + Files>(
 }
 
 /// Runs captures under an accepted plan between two folders with nonempty paths: opens all files, runs, then writes the report.
-/// `run_folder` calls it.
+///
+/// Fails if a file can't be opened, read or written, or if a capture is refused. `run_folder` calls it.
 fn send_named<H: AllocGlobal + Clock + Eprint + Files>(
     files: &mut CommandFiles<'_, H>,
     accepted: &Accepted<Global>,
@@ -101,7 +102,8 @@ fn send_named<H: AllocGlobal + Clock + Eprint + Files>(
     }
 }
 
-/// Runs captures from readers into writers, and shows the progress of a long run if `flags` asks for it.
+/// Runs captures from readers into writers, and shows the progress of a long run if `flags` asks for it. Fails if a capture is refused, or
+/// if a reader or writer fails.
 fn run_watched<H: AllocGlobal + Clock + Eprint + Files>(
     rt: &H,
     accepted: &Accepted<Global>,
@@ -176,6 +178,8 @@ fn check_report_is_unused<H: AllocGlobal + Files>(
 
 /// Reads a run's plan and commands, and accepts the plan. Both files are in use afterwards, and `texts` keeps their contents for
 /// explanations.
+///
+/// Fails if a file can't be read, or if the plan or the commands are refused.
 pub fn read_plan_and_commands<F: ReadFiles>(
     alloc: Global,
     files: &mut F,
@@ -205,6 +209,8 @@ pub fn read_plan_and_commands<F: ReadFiles>(
 }
 
 /// Reads a plan's commands from the file at an optional path, then checks the plan. Without a path there are no commands.
+///
+/// Fails if the file can't be read, or if the commands or the plan are refused.
 fn read_commands<F: ReadFiles>(
     alloc: Global,
     files: &mut F,
@@ -242,7 +248,8 @@ fn read_commands<F: ReadFiles>(
     }
 }
 
-/// Writes a run's report to a folder, and returns its file, which is then in use. `send_named` calls it.
+/// Writes a run's report to a folder, and returns its file, which is then in use. Fails if the report's file can't be written. `send_named`
+/// calls it.
 fn write_report_file<H: AllocGlobal + Files>(
     files: &mut CommandFiles<'_, H>,
     outcome: &Outcome<Global>,

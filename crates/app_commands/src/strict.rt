@@ -29,7 +29,7 @@ pub struct StrictRun {
     pub told: String,
     /// Whether warnings are errors and the plan has one.
     pub is_warned: bool,
-    /// Text for standard error about the run: one line for each protected filter with losses, if losses are errors.
+    /// Text for standard error about the run: one `lost:` line for each protected filter with losses, if losses are errors.
     pub lost: String,
     /// Whether `lost` has a line.
     pub is_lossy: bool,
@@ -54,7 +54,8 @@ impl StrictRun {
 /// Runs captures through the bridge of a plan, and writes the requested tables and picture. If warnings are errors and the plan has one,
 /// nothing runs, and only plan and commands are opened.
 ///
-/// Reads plan and commands once, so both may be pipes. `run_bridge` calls it.
+/// Reads plan and commands once, so both may be pipes. Fails if a file fails, or if the plan, the commands or a capture is refused.
+/// `run_bridge` calls it.
 pub(crate) fn run_job<H: AllocGlobal + Clock + Eprint + Files>(
     files: &mut CommandFiles<'_, H>,
     job: &RunRequest<'_>,
@@ -86,7 +87,9 @@ pub(crate) fn run_job<H: AllocGlobal + Clock + Eprint + Files>(
 }
 
 /// Runs captures under an accepted plan. If warnings are errors, a plan with a warning doesn't run. `idle` is the line of a schedule change
-/// without effect. `run_job` calls it.
+/// without effect.
+///
+/// Fails if a file fails or a capture is refused. `run_job` calls it.
 fn run_accepted_captures<H: AllocGlobal + Clock + Eprint + Files>(
     files: &mut CommandFiles<'_, H>,
     accepted: &Accepted<Global>,
@@ -132,7 +135,7 @@ fn run_accepted_captures<H: AllocGlobal + Clock + Eprint + Files>(
 /// Facts of a complete run that its explanation needs.
 #[derive(Clone, Copy)]
 struct ExplanationData {
-    /// Line in the plan of a schedule change without effect, or `None`.
+    /// Line in the plan of a schedule change without effect. `None` if the plan has no change without effect.
     idle: Option<usize>,
     /// Times of the last arrival and departure, or `None` if unknown.
     last: Option<Last>,
@@ -160,8 +163,8 @@ fn run_warnings<H: AllocGlobal + Files>(
     }
 }
 
-/// Runs captures under an accepted plan if the plan has no warning; otherwise returns the warnings. `run_accepted_captures` calls it if
-/// warnings are errors.
+/// Runs captures under an accepted plan if the plan has no warning; otherwise returns the warnings. Fails if a file fails or a capture is
+/// refused. `run_accepted_captures` calls it if warnings are errors.
 #[tactic(auto, using(crate::proofs::ShownEnded::memory_ends))]
 fn send_strictly<H: AllocGlobal + Clock + Eprint + Files>(
     files: &mut CommandFiles<'_, H>,

@@ -24,7 +24,9 @@ pub(crate) struct TableFiles<F: Write + OpenFile + Drop> {
 }
 
 /// Writes the requested tables of a run: delays, then frames, and returns their files. Each file must not be in use, and is in use
-/// afterwards. `write_outputs` calls it.
+/// afterwards.
+///
+/// Fails if a file is in use or can't be written. `write_outputs` calls it.
 pub(crate) fn write_tables<H: AllocGlobal + Files>(
     files: &mut CommandFiles<'_, H>,
     accepted: &Accepted<Global>,
@@ -51,7 +53,9 @@ pub(crate) fn write_tables<H: AllocGlobal + Files>(
     }
 }
 
-/// Writes the table of delays to the file at `path`, and returns the file. Does nothing if the table isn't requested (`None`).
+/// Writes the table of delays to the file at `path`, and returns the file. Does nothing if the table isn't requested (`None`). Fails if a
+/// file is in use or can't be written.
+///
 /// `write_tables` calls it.
 fn write_delay_table<H: AllocGlobal + Files>(
     files: &mut CommandFiles<'_, H>,
@@ -75,7 +79,9 @@ fn write_delay_table<H: AllocGlobal + Files>(
     }
 }
 
-/// Writes the table of frames to the file at `path`, and returns the file. Does nothing if the table isn't requested (`None`).
+/// Writes the table of frames to the file at `path`, and returns the file. Does nothing if the table isn't requested (`None`). Fails if a
+/// file is in use or can't be written.
+///
 /// `write_tables` calls it.
 fn write_frame_table<H: AllocGlobal + Files>(
     files: &mut CommandFiles<'_, H>,

@@ -44,8 +44,8 @@ pub fn read_commands_and_check<R: Read + Drop, A: Allocator + Copy>(
     }
 }
 
-/// Reads the commands of a plan from an optional reader. Without a reader, the list of commands is empty. `read_commands_and_check` calls
-/// it.
+/// Reads the commands of a plan from an optional reader. Without a reader, the list of commands is empty. Fails if the reader fails or the
+/// commands are refused. `read_commands_and_check` calls it.
 fn read_optional_commands<R: Read + Drop, A: Allocator + Copy>(
     alloc: A,
     heap: Global,

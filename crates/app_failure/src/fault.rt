@@ -96,8 +96,8 @@ impl From<FileFault> for Failure {
     }
 }
 
-/// Returns the command's failure for file fault `fault`: the failed file with its cause, or `NoMemory`. Functions of `app_commands`,
-/// `app_networks`, `net_check` and `net_latency` call it.
+/// Returns the command's failure for file fault `fault`: the failed file with its cause, or `NoMemory`. `wire_files` of `app_commands`,
+/// `end_table` of `app_networks` and many more call it.
 pub fn file_failure(fault: FileFault) -> Failure
     ensures same { result ≡ of_file_fault fault }
     ensures ends { EndsFiles result }

@@ -14,7 +14,7 @@ use std::io::Read;
 /// Reads a plan from a reader, and accepts it if it isolates each of its protected filters and groups. If the reader fails, the failure
 /// names `path`. The text's document uses `heap`, the plan `alloc`.
 ///
-/// `check_job` and functions of `app_commands` and `net_latency` call it.
+/// `check_job`, `check_text` of `app_commands` and 4 more call it.
 pub fn read_accepted_plan<R: Read + Drop, A: Allocator + Copy>(
     alloc: A,
     heap: Global,

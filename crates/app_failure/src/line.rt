@@ -19,8 +19,8 @@ use bridge_text::TextBuilder;
 use std::alloc::Allocator;
 use std::process::ExitCode;
 
-/// Returns the fault line, without its line feed, and the exit status, 1 to 4. `print_fault` and functions of `app_commands` and
-/// `app_networks` call it.
+/// Returns the fault line, without its line feed, and the exit status, 1 to 4. `print_fault`, `report_fault` of `app_commands` and 4 more
+/// call it.
 pub fn fault_line<A: Allocator + Copy>(
     alloc: A,
     fault: &Failure,

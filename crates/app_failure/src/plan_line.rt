@@ -49,7 +49,7 @@ fn put_list_fault<A: Allocator>(
     }
 }
 
-/// Writes the start of the fault line: `plan refused: NAME`. `put_plan_fault`, `put_refused_section` and others call it.
+/// Writes the start of the fault line: `plan refused: NAME`. `put_plan_fault`, `put_refused_section` and 3 more call it.
 fn put_refused_plan<A: Allocator>(text: &mut TextBuilder<A>, name: &str)
     ensures { HasGrown text.old (plan_refused name.now) text.new }
 {

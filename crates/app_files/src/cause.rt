@@ -63,7 +63,7 @@ fn kind_cause(kind: ErrorKind) -> Cause {
 /// Returns why the file at `path` can't be opened or read, after the error `error`. For a missing file, examines whether its folder exists.
 /// `Unknown` for other errors.
 ///
-/// `capture_cause`, `open_input` and functions of `app_networks` call it.
+/// `capture_cause`, `unreadable_cause` of `app_networks` and 2 more call it.
 pub fn read_cause(rt: &impl Files, path: &str, error: &Error) -> Cause {
     match error.kind() {
         ErrorKind::NotFound => {

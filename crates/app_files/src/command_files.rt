@@ -54,7 +54,8 @@ impl<'a, H: AllocGlobal + Files> CommandFiles<'a, H> {
         })
     }
 
-    /// Opens a file for reading, and adds it to the files in use. `CommandFiles::read` and `CommandFiles::open_file` call it.
+    /// Opens a file for reading, and adds it to the files in use. Fails with the path and cause if the file can't be opened.
+    /// `CommandFiles::read` and `CommandFiles::open_file` call it.
     pub fn open(&mut self, path: &str) -> Result<H::File, FileFault>
         ensures fails { IfErr result (IsOfPath Reading path.now) }
         ensures kept { BeginWith self.old.in_use.items self.new.in_use.items }
@@ -64,8 +65,10 @@ impl<'a, H: AllocGlobal + Files> CommandFiles<'a, H> {
         Ok(reader)
     }
 
-    /// Reads at most `MOST_TEXT` octets of the file at `path`, and adds it to the files in use. Commands call it for plans, commands and
-    /// networks.
+    /// Reads at most `MOST_TEXT` octets of the file at `path`, and adds it to the files in use. Fails with the path and cause if the file
+    /// can't be read.
+    ///
+    /// Commands call it for plans, commands and networks.
     pub fn read_text(&mut self, path: &str) -> Result<Vec<u8>, FileFault>
         ensures { IfErr result (IsOfPath Reading path.now) }
     {
@@ -166,7 +169,7 @@ impl<'a, H: AllocGlobal + Files> CommandFiles<'a, H> {
     }
 
     /// Opens a file for writing, or creates it. Its contents remain until the first write. Refuses a file in use. `create_new`,
-    /// `create_captures` and functions of `app_commands` call it.
+    /// `write_picture_file` of `app_commands` and 2 more call it.
     pub fn create(&self, path: &str) -> Result<Output<H::File>, FileFault>
         ensures { IfErr result (IsOfPath Writing path.now) }
     {
@@ -178,8 +181,10 @@ impl<'a, H: AllocGlobal + Files> CommandFiles<'a, H> {
         Ok(output)
     }
 
-    /// Opens a file for writing as `create` does, and adds it to the files in use. `write_report_file` and `write_table` of `app_commands`,
-    /// and `open_output` of `app_networks` call it.
+    /// Opens a file for writing as `create` does, and adds it to the files in use. Fails with the path and cause if the file is in use or
+    /// can't be created.
+    ///
+    /// `write_report_file` and `write_table` of `app_commands`, and `open_output` of `app_networks` call it.
     pub fn create_new(&mut self, path: &str) -> Result<Output<H::File>, FileFault>
         ensures { IfErr result (IsOfPath Writing path.now) }
     {
@@ -239,8 +244,10 @@ impl<H: AllocGlobal + Files> ReadFiles for CommandFiles<'_, H> {
     }
 }
 
-/// Opens the file at `path` for reading. Doesn't add it to files in use: commands that write no file need none. `open` and `read_text_file`
-/// call it.
+/// Opens the file at `path` for reading. Doesn't add it to files in use: commands that write no file need none. Fails with the path and
+/// cause if the file can't be opened.
+///
+/// `open` and `read_text_file` call it.
 pub fn open_input<H: AllocGlobal + Files>(rt: &H, path: &str) -> Result<H::File, FileFault>
     ensures { IfErr result (IsOfPath Reading path.now) }
 {
@@ -274,7 +281,8 @@ pub fn read_open<R: Read + Drop>(
     }
 }
 
-/// Reads at most `MOST_TEXT` octets of the file at `path`. Doesn't add it to files in use. Only test programs call it.
+/// Reads at most `MOST_TEXT` octets of the file at `path`. Doesn't add it to files in use. Fails with the path and cause if the file can't
+/// be read. Only test programs call it.
 pub fn read_text_file<H: AllocGlobal + Files>(rt: &H, path: &str) -> Result<Vec<u8>, FileFault>
     ensures { IfErr result (IsOfPath Reading path.now) }
 {
@@ -405,14 +413,14 @@ pub trait ReadFiles {
     /// An open file.
     type File: Read + Drop;
 
-    /// Opens the file at `path` for reading.
+    /// Opens the file at `path` for reading. Fails with the path and cause if the file can't be opened.
     fn open_file(&mut self, path: &str) -> Result<Self::File, FileFault>
         ensures octets { (octets : List ℕ) → octets_at self.old path.now ≡ Some octets
             → IfOk result (λ file. Self.File.remaining file ≡ Some octets) }
         ensures fails { IfErr result (IsOfPath Reading path.now) }
         ensures same { (path : List ℕ) → octets_at self.new path ≡ octets_at self.old path };
 
-    /// Reads at most `most` octets of the file at `path`.
+    /// Reads at most `most` octets of the file at `path`. Fails with the path and cause if the file can't be read.
     fn read(&mut self, path: &str, most: u64) -> Result<Vec<u8>, FileFault>
         ensures octets { (octets : List ℕ) → octets_at self.old path.now ≡ Some octets
             → IfOk result (λ text. text.items ≡ take most octets) }

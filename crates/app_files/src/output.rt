@@ -31,8 +31,8 @@ impl<F: Write + OpenFile + Drop> Output<F> {
         open_file_id(&self.file)
     }
 
-    /// Completes the output and returns the file. A file without any write is empty afterwards. A command calls it after its last write to
-    /// the file.
+    /// Completes the output and returns the file. If nothing was written, the file is empty afterwards. A command calls it after its last
+    /// write to the file.
     pub fn finish(self) -> io::Result<Output<F>>
         ensures { IfOk result (λ done. done.file ≡ self.file) }
     {
@@ -81,8 +81,8 @@ pub fn open_output<H: Files>(rt: &H, path: &str) -> io::Result<Output<H::File>> 
     })
 }
 
-/// Returns the identity of an open file, or `None` if the system doesn't provide it. `open`, `note_files` and functions of `app_commands`
-/// call it.
+/// Returns the identity of an open file, or `None` if the system doesn't provide it. `open`, `wire_files` of `app_commands` and 2 more call
+/// it.
 pub fn open_file_id(file: &impl OpenFile) -> Option<FileId> {
     match file.metadata() {
         Ok(metadata) => Some(metadata_file_id(&metadata)),
@@ -91,7 +91,7 @@ pub fn open_file_id(file: &impl OpenFile) -> Option<FileId> {
 }
 
 /// Returns the identity of the file at `path`, or `None` if the file doesn't exist or the system provides no identity. `note_paths`,
-/// `refuse_in_use` and functions of `app_commands` and `app_networks` call it.
+/// `wire_files` of `app_commands` and 7 more call it.
 pub fn path_file_id(rt: &impl Files, path: &str) -> Option<FileId> {
     match fs::metadata(rt, path) {
         Ok(metadata) => Some(metadata_file_id(&metadata)),
@@ -119,7 +119,7 @@ pub fn is_same_file(one: Option<FileId>, other: Option<FileId>) -> bool
 }
 
 /// Adds a file to the list; does nothing for an unknown file (`None`). If memory runs out, the list is unchanged. `open`, `note_files` and
-/// others call it.
+/// 4 more call it.
 pub fn add_file(files: &mut Vec<FileId>, file: Option<FileId>) -> Result<(), NoMemory>
     ensures added { OnOk result (files.new.items ≡ with_known files.old.items file) }
     ensures same { OnErr result (files.new.items ≡ files.old.items) }
@@ -133,7 +133,7 @@ pub fn add_file(files: &mut Vec<FileId>, file: Option<FileId>) -> Result<(), NoM
     }
 }
 
-/// Returns whether the file is in the list. Returns false for an unknown file (`None`). `note_new`, `refuse_in_use` and others call it.
+/// Returns whether the file is in the list. Returns false for an unknown file (`None`). `note_new`, `refuse_in_use` and 4 more call it.
 pub fn has_file(files: &[FileId], file: Option<FileId>) -> bool
     ensures { IsTrue result ↔ HasFile files.now file }
 {
@@ -152,7 +152,8 @@ pub enum Said {
     Noted(String),
 }
 
-/// Returns whether an argument stands for standard input or output. Functions of `app_commands` and `app_networks` call it.
+/// Returns whether an argument stands for standard input or output. `check_input` of `app_commands`, `draw_network` of `app_networks` and 6
+/// more call it.
 pub fn is_standard(word: &str) -> bool
     ensures { IsTrue result ↔ IsStandard word.now }
 {

@@ -9,7 +9,7 @@ use bridge_limits::NoMemory;
 use std::alloc::{Allocator, Global};
 
 /// Returns the path of a port's capture: the folder, `/`, the port number in decimal, `.pcap`. `CommandFiles::note_captures`,
-/// `create_captures` and functions of `app_commands` and `app_networks` call it.
+/// `explain_stopped_run` of `app_commands` and 6 more call it.
 pub fn capture_path<A: Allocator + Copy>(
     alloc: A,
     folder: &str,
@@ -20,7 +20,8 @@ pub fn capture_path<A: Allocator + Copy>(
     Ok(format!(in alloc; "{folder}/{port}.pcap")?)
 }
 
-/// Returns the path of the report in a folder: `/report.txt` after the folder. Functions of `app_commands` and `app_networks` call it.
+/// Returns the path of the report in a folder: `/report.txt` after the folder. `check_report_is_unused` of `app_commands`, `open_bridge` of
+/// `app_networks` and 3 more call it.
 pub fn report_path<A: Allocator + Copy>(alloc: A, folder: &str) -> Result<String<A>, NoMemory>
     ensures { IfOk result (λ path. string_bytes path ≡ report_path folder.now) }
 {

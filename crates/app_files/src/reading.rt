@@ -23,8 +23,8 @@ pub enum ReadFault {
     NoMemory,
 }
 
-/// Reads at most `most` octets of a reader. Repeats an interrupted read. `read_text` and `read_standard`, and `explain_capture` of
-/// `app_commands` call it.
+/// Reads at most `most` octets of a reader. Repeats an interrupted read. Fails with `Broken` if the reader fails, or with `NoMemory`.
+/// `read_text` and `read_standard`, and `explain_capture` of `app_commands` call it.
 pub fn read_at_most<R: Read + Drop, A: Allocator>(
     alloc: A,
     reader: R,
@@ -40,8 +40,8 @@ pub fn read_at_most<R: Read + Drop, A: Allocator>(
     }
 }
 
-/// Reads at most `MOST_TEXT` octets of a reader: a plan, commands, traffic or a network. `read_named`, and functions of `app_commands` and
-/// `net_latency` call it.
+/// Reads at most `MOST_TEXT` octets of a reader: a plan, commands, traffic or a network. Fails with `Broken` if the reader fails, or with
+/// `NoMemory`. `read_named`, `is_network` of `app_commands` and 1 more call it.
 pub fn read_text<R: Read + Drop, A: Allocator>(alloc: A, reader: R) -> Result<Vec<u8, A>, ReadFault>
     ensures { (octets : List ℕ) → R.remaining reader ≡ Some octets
         → IfOk result (λ text. text.items ≡ take MOST_TEXT octets) }

@@ -41,7 +41,8 @@ fn write_all<F: Write + OpenFile + Drop>(output: Output<F>, octets: &[u8]) -> io
     output.finish()
 }
 
-/// Completes the output file at `path`, and returns it. A file without any write is empty afterwards. `write_content` calls it.
+/// Completes the output file at `path`, and returns it. If nothing was written, the file is empty afterwards. Fails with the path and cause
+/// if the file can't be written. `write_content` calls it.
 fn finish_file<F: Write + OpenFile + Drop>(
     alloc: Global,
     path: &str,
@@ -57,8 +58,10 @@ fn finish_file<F: Write + OpenFile + Drop>(
     }
 }
 
-/// Flushes and completes the output file at `path`, and returns it. A file without any write is empty afterwards. `end_table` of
-/// `app_networks` calls it.
+/// Flushes and completes the output file at `path`, and returns it. If nothing was written, the file is empty afterwards. Fails with the
+/// path and cause if the file can't be written.
+///
+/// `end_table` of `app_networks` calls it.
 pub fn flush_file<F: Write + OpenFile + Drop>(
     alloc: Global,
     path: &str,
@@ -112,7 +115,7 @@ pub trait Content {
     /// Octets of the contents.
     ghost octets: { Self → List ℕ };
 
-    /// Appends the octets to `writer`, and returns it flushed.
+    /// Appends the octets to `writer`, and returns it flushed. Fails with `Broken` if the writer fails, or with `NoMemory`.
     fn write_to<W: Write + Drop>(&self, alloc: Global, writer: W) -> Result<W, WriteFault>
         ensures { IfOk result (λ done. Appends (W.contents writer) (W.contents done) (octets self.now)) };
 }

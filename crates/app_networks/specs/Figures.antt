@@ -15,7 +15,7 @@ abbrev pub worst_if_known : Option StreamLatency → Option ℕ
 worst_if_known None = None
 worst_if_known (Some x) = Some x.worst
 
--- The figures of a stream: its bound, and its worst delay if it is known.
+-- The figures of a stream: its bound, and its worst delay if this delay is known.
 abbrev pub figures_of_stream : {A : Type 0} → List (Vec QueueBound A) → List LinkRow → Stream × Option StreamLatency → StreamFigures
 figures_of_stream bounds links r = record { bound = stream_bound bounds links r.0.hops; worst = worst_if_known r.1 }
 

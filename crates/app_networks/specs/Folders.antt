@@ -41,8 +41,8 @@ AreInputsOfPlans ps cs = ⊥
 abbrev pub IsCaptureLine : List ℕ → RunFault → List ℕ → Type 0
 IsCaptureLine name e line = (rest : List ℕ) → run_fault_line e ≡ codes "capture " ++ rest → line ≡ codes "capture " ++ (name ++ (codes "." ++ rest))
 
--- The fault line of a network run whose inputs still change after the last allowed round: the bridge and the first such
--- port.
+-- The fault line of a network run whose inputs still change after the last allowed round. It names the bridge and port
+-- of the first input that still changes.
 abbrev pub unsettled_line : List ℕ → ℕ → List ℕ
 unsettled_line name port = codes "network not settled " ++ (name ++ (codes "." ++ decimal port))
 
@@ -143,7 +143,7 @@ rounds_line f frames delivered = network_words f ++ (codes "frames " ++ (decimal
 abbrev pub IsLine : {A : Type 0} → List Link → List (BridgeResult A) → file.Network → List ℕ → Type 0
 IsLine links settled f line = (frames : ℕ) × (delivered : ℕ) × AreTotals links settled f.streams 0 0 frames delivered × (line ≡ rounds_line f frames delivered)
 
--- Holds if a complete network run isolates its streams: each stream's records depend on its own inputs only.
+-- Holds if a complete network run isolates the streams: each stream's records depend on the stream's own inputs only.
 pub record IsIsolatedRun {A : Type 0} (n : NetworkParts A) (came : List (BridgeInput A)) (settled : List (BridgeResult A)) : Type 0 where
   pub runs : RunsNetwork n came settled
   pub alone : IsolatesStreams n came settled

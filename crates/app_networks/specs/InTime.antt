@@ -57,7 +57,7 @@ GoOnce links hops i known = (k : ℕ) (r : SourceFrame) (legs : List (ℕ × ℕ
 
 -- HOPS OF A RUN
 
--- Holds if the run has a record of a hop, given by the index of its bridge and the number of its filter.
+-- Holds if the run has a record of a hop, given by bridge index and filter number.
 pub record HasView {A : Type 0} (settled : List (BridgeResult A)) (x : ℕ × ℕ) : Type 0 where
   pub told : BridgeResult A
   pub there : slice_get settled x.0 ≡ Some told
@@ -72,7 +72,7 @@ HaveViewsOf settled hops = (x : ℕ × ℕ) → IsMember x hops → HasView sett
 abbrev pub HaveViews : {A : Type 0} → List (BridgeResult A) → List Stream → Type 0
 HaveViews settled streams = (s : Stream) → IsMember s streams → HaveViewsOf settled s.hops
 
--- Holds if `h` is the record of hop `x`: of its filter, in the result of its bridge.
+-- Holds if `h` is the record of hop `x`: of the hop's filter, in the result of the hop's bridge.
 pub record IsHopRun {A : Type 0} (o : ℕ → Outcome A) (x : ℕ × ℕ) (h : HopRun A) : Type 0 where
   pub bridge : h.bridge ≡ x.0
   pub view : lookup (nat_eq x.1) (o x.0).filters.items ≡ Some h.view.now

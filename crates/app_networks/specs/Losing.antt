@@ -48,8 +48,8 @@ AreLosses links hops bridges [] [] [] = Unit {0}
 AreLosses links hops bridges (x ∷ xs) (h ∷ hs) (l ∷ losses) = IsLossOf links hops bridges x h l × AreLosses links hops bridges xs hs losses
 AreLosses links hops bridges xs hs losses = ⊥
 
--- Holds if `lines` are the lines about a stream in a complete run: one if it lost frames, one if a copy missed its
--- deadline.
+-- Holds if `lines` are the lines of a stream in a complete run. They are a `lost:` line if it lost frames, and a
+-- `late:` line if a copy missed the deadline.
 pub record AreLinesOf {A : Type 0} (links : List Link) (settled : List (BridgeResult A)) (bridges : List Bridge) (s : Stream) (lines : List ℕ) : Type 0 where
   pub frames : ℕ
   pub delivered : ℕ
@@ -60,18 +60,18 @@ pub record AreLinesOf {A : Type 0} (links : List Link) (settled : List (BridgeRe
   pub are_delays : AreDelays links count.hops count.hops count.known delays
   pub lines_are : lines ≡ fault_lines s.name count.tallies losses delays s.deadline
 
--- Holds if the text `old` grew to `new` by the lines of a stream.
+-- Holds if the text `old` grew to `new` by the `lost:` and `late:` lines of a stream.
 abbrev pub PutsLines : {A : Type 0} → List Link → List (BridgeResult A) → List Bridge → Stream → Option (List ℕ) → Option (List ℕ) → Type 0
 PutsLines links settled bridges s old new = (lines : List ℕ) × AreLinesOf links settled bridges s lines × HasGrown old lines new
 
--- Holds if `lines` are the lines about all streams in the list, in list order.
+-- Holds if `lines` are the `lost:` and `late:` lines of all streams in the list, in list order.
 abbrev pub AreFaultLines : {A : Type 0} → List Link → List (BridgeResult A) → List Bridge → List Stream → List ℕ → Type 0
 AreFaultLines links settled bridges [] lines = lines ≡ []
 AreFaultLines links settled bridges (s ∷ ss) lines =
     (line : List ℕ) × (rest : List ℕ) × AreLinesOf links settled bridges s line × AreFaultLines links settled bridges ss rest × (lines ≡ line ++ rest)
 
--- Holds if `lines` are the lines about all streams in a complete run, in file order, if losses are errors; otherwise
--- `lines` is empty.
+-- Holds if `lines` are the `lost:` and `late:` lines of all streams in a complete run, in file order. If losses aren't
+-- errors, `lines` is empty.
 abbrev pub AreToldLines : {A : Type 0} → List Link → List (BridgeResult A) → file.Network → Bool → List ℕ → Type 0
 AreToldLines links settled f true lines = AreFaultLines links settled f.bridges f.streams lines
 AreToldLines links settled f false lines = lines ≡ []

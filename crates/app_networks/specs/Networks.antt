@@ -42,8 +42,10 @@ IsOutputOfRun s explained output =
     (string_bytes output.stdout ≡ line_if s.line) × IsWithRounds (string_bytes s.told) (explained && is_some s.line) (string_bytes output.stderr)
     × (output.status ≡ status_of s.is_warned s.is_lossy)
 
--- Holds if the program prints the line of a complete network run, and lines of lost and late streams if losses are errors. The status is 1
--- exactly if there are such lines.
+-- Holds if the program prints the line of a complete network run, and lines of lost and late streams if losses are
+-- errors.
+--
+-- The status is 1 exactly if there are lost or late streams and losses are errors.
 abbrev pub IsDoneRun : Bool → Bool → Output → Type 0
 IsDoneRun strict explained output =
     (line : List ℕ) × (lost : List ℕ) × (rounds : ℕ) × PrintsRunLosses Global strict line rounds lost × (string_bytes output.stdout ≡ line)

@@ -22,7 +22,8 @@ AreWrittenBy R olds sources news = ⊥
 abbrev pub IsTapWritten : {W : Type 0} → (W → Option (List ℕ)) → W → MemoryDevice → W → Type 0
 IsTapWritten contents old tap new = Appends (contents old) (contents new) tap.octets
 
--- Holds if each output capture of a bridge received its port's capture, and its report file received the report.
+-- Holds if each output capture of a bridge received the capture of its port, and the bridge's report file received the
+-- report.
 abbrev pub IsBridgeWritten : {F A : Type 0} → (Output F → Option (List ℕ)) → BridgeOutputs F → BridgeResult A → BridgeOutputs F → Type 0
 IsBridgeWritten contents old settled new =
     AreWrittenBy (IsTapWritten contents) old.taps.items settled.taps.items new.taps.items

@@ -37,7 +37,8 @@ pub record IsRequest (words : List Text) (r : Request) : Type 0 where
   pub explained : r.is_explained ≡ explains words
   pub strict : r.is_strict ≡ is_strict words
 
--- Holds if the arguments don't request help or the version: one of them may be such an argument, but `clap` has another answer.
+-- Holds if no argument is a help word (`is_help_word`), or if `clap` answers the arguments with neither help nor the
+-- version.
 abbrev pub MissesHelp : List Text → Type 0
 MissesHelp words = list_any is_help_word words ≡ true → ¬ AsksForHelp (fault_of commands words)
 

@@ -27,7 +27,9 @@ struct BoundsWarnings {
 }
 
 /// Returns the output of `bounds` for a plan without traffic. The status is 1 if warnings are errors and the plan has one. Stores the
-/// plan's text in `texts` for an explanation. `bound` calls it.
+/// plan's text in `texts` for an explanation.
+///
+/// Fails if the plan can't be read, is refused or doesn't isolate a protected filter. `bound` calls it.
 pub(crate) fn bound_plan<F: ReadFiles>(
     alloc: Global,
     files: &mut F,
@@ -200,7 +202,9 @@ pub(crate) fn bound_traffic<H: AllocGlobal + Files, F: ReadFiles>(
 }
 
 /// Returns the output of `bounds --traffic` for the plan in `text` and the traffic of reader `rows`. Failures name the paths `plan` and
-/// `file`. `bound_traffic` calls it.
+/// `file`.
+///
+/// Fails if the plan or the traffic is refused, or if the reader fails. `bound_traffic` calls it.
 fn bound_rows<R: Read + Drop, H: AllocGlobal + Files>(
     rt: &H,
     plan: &str,

@@ -49,8 +49,8 @@ fn read_capture<F: ReadFiles>(
     }
 }
 
-/// Returns a capture for each port of a bridge, by rising number: read from the folder for an open port, otherwise empty.
-/// `read_bridge_input` calls it.
+/// Returns a capture for each port of a bridge, by rising number: read from the folder for an open port, otherwise empty. Fails if a
+/// capture can't be read. `read_bridge_input` calls it.
 fn read_captures<F: ReadFiles>(
     alloc: Global,
     files: &mut F,
@@ -93,7 +93,9 @@ fn bridge_commands(
 }
 
 /// Reads the commands in `folder`, the input folder of the bridge with name `name`. Returns an empty list if the folder has no file
-/// `commands.toml`. `read_bridge_input` calls it.
+/// `commands.toml`. Fails if the commands can't be read or are refused.
+///
+/// `read_bridge_input` calls it.
 fn read_commands<F: ReadFiles>(
     alloc: Global,
     files: &mut F,
@@ -117,7 +119,9 @@ fn read_commands<F: ReadFiles>(
     bridge_commands(alloc, accepted, name, &text)
 }
 
-/// Reads the input of a bridge from outside: captures of its open ports, and its commands. `place` has its name and folder.
+/// Reads the input of a bridge from outside: captures of its open ports, and its commands. `place` has its name and folder. Fails if a file
+/// can't be read or commands are refused.
+///
 /// `read_inputs_of_plans` calls it.
 fn read_bridge_input<F: ReadFiles>(
     alloc: Global,
@@ -180,7 +184,8 @@ fn read_inputs_of_plans<F: ReadFiles>(
     Ok(all)
 }
 
-/// Reads the captures and commands of each bridge of a network, from its folder in `input`. `open_run` calls it.
+/// Reads the captures and commands of each bridge of a network, from its folder in `input`. Fails if a file can't be read or commands are
+/// refused. `open_run` calls it.
 pub(crate) fn read_bridge_inputs<F: ReadFiles>(
     alloc: Global,
     files: &mut F,

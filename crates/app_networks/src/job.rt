@@ -114,7 +114,8 @@ fn lost_if(
     }
 }
 
-/// Writes the captures, reports and tables of a network run, and returns its lines. `write_results_and_picture` calls it.
+/// Writes the captures, reports and tables of a network run, and returns its lines. Fails if an output can't be written.
+/// `write_results_and_picture` calls it.
 fn write_results<F: Write + OpenFile + Drop>(
     alloc: Global,
     file: &NetworkFile<Global>,
@@ -173,7 +174,7 @@ fn write_results<F: Write + OpenFile + Drop>(
 }
 
 /// Writes the captures, reports, tables and requested picture of a network run to their files, which are already open. Returns the run's
-/// lines. `run_network_folders` calls it.
+/// lines. Fails if an output can't be written. `run_network_folders` calls it.
 fn write_results_and_picture<H: AllocGlobal + Files>(
     rt: &H,
     file: &NetworkFile<Global>,
@@ -270,7 +271,8 @@ fn open_run<H: AllocGlobal + Files>(
 }
 
 /// Runs a network with the inputs of one folder, and writes the outputs to another. Returns the lines to print and the number of rounds.
-/// `run_accepted` calls it.
+///
+/// Fails if a file fails, a capture or commands are refused, or the network doesn't settle. `run_accepted` calls it.
 fn run_network_folders<H: AllocGlobal + Eprint + Files>(
     files: &mut CommandFiles<'_, H>,
     file: &NetworkFile<Global>,
@@ -377,7 +379,10 @@ fn warnings_if(
     all_warnings(alloc, alloc, file, network, &bounds)
 }
 
-/// Runs an accepted network. If warnings are errors and the network has one, runs nothing and opens no file. `run_rounds` calls it.
+/// Runs an accepted network. If warnings are errors and the network has one, runs nothing and opens no file. Fails if a file fails, a
+/// capture or commands are refused, or the network doesn't settle.
+///
+/// `run_rounds` calls it.
 fn run_accepted<H: AllocGlobal + Eprint + Files>(
     files: &mut CommandFiles<'_, H>,
     file: &NetworkFile<Global>,
@@ -447,14 +452,15 @@ pub struct NetworkRunRequest<'a> {
     pub input: &'a str,
     /// Path of the output folder.
     pub output: &'a str,
-    /// Path of the requested picture, or `None`.
+    /// Path of the requested picture. `None` if the arguments request none.
     pub picture: &'a Option<String>,
 }
 
 /// Runs an accepted network between two folders, and writes captures, reports, tables and the requested picture. Outputs keep their
 /// contents until the run is complete.
 ///
-/// If warnings are errors and the network has one, nothing runs. `run_network` calls it.
+/// If warnings are errors and the network has one, nothing runs. Fails if a file fails, a capture or commands are refused, or the network
+/// doesn't settle. `run_network` calls it.
 pub fn run_rounds<H: AllocGlobal + Eprint + Files>(
     files: &mut CommandFiles<'_, H>,
     job: &NetworkRunRequest<'_>,

@@ -15,7 +15,7 @@ use net_report::{
 use net_run::BridgeResult;
 use std::alloc::Global;
 
-/// Returns the name of a hop as in the network's file, followed by a space, for the line of a stream with losses. `hop_loss` calls it.
+/// Returns the name of a hop as in the network's file, followed by a space, for the `lost:` line of a stream. `hop_loss` calls it.
 fn hop_prefix(
     alloc: Global,
     bridges: &[BridgeRow<Global>],
@@ -28,7 +28,7 @@ fn hop_prefix(
     Ok(format!(in alloc; "{name}.{filter} ")?)
 }
 
-/// Returns the losses of a stream's hop: its name and its counts. `runs` has the records of all hops of the stream, `run` the record of
+/// Returns the losses of a stream's hop: the hop's name and counts. `runs` has the records of all hops of the stream, `run` the record of
 /// this hop. `stream_losses` calls it.
 fn hop_loss(
     alloc: Global,
@@ -67,8 +67,8 @@ fn stream_losses(
     Ok(all)
 }
 
-/// Writes the lines about a stream that lost frames or missed its deadline. Traces the stream's frames to find them. `fault_lines` calls
-/// it.
+/// Writes the `lost:` line and the `late:` line of a stream, if the stream lost frames or missed its deadline. Traces the stream's frames
+/// to find the losses and delays. `fault_lines` calls it.
 fn put_stream_lines(
     alloc: Global,
     text: &mut TextBuilder<Global>,
@@ -97,8 +97,8 @@ fn put_stream_lines(
     Ok(())
 }
 
-/// Returns the lines of all streams with lost frames or missed deadlines, in file order. Traces all frames again, so `lost_if` calls it
-/// only with `--strict`.
+/// Returns the `lost:` and `late:` lines of all streams, in file order. Traces all frames again, so `lost_if` calls it only with
+/// `--strict`.
 pub(crate) fn fault_lines(
     alloc: Global,
     file: &NetworkFile<Global>,

@@ -55,7 +55,7 @@ fn stream_explanations(rt: &(impl AllocGlobal + Files), path: &str, is_asked: bo
     }
 }
 
-/// Returns the output of `net check` for an accepted network: its lines and warnings on standard output, the explanation of its streams on
+/// Returns the output of `net check` for an accepted network: lines and warnings on standard output, the explanation of the streams on
 /// standard error. `check_network` calls it.
 fn output_of_check(said: NetworkOutput, reasons: String, flags: Flags) -> Result<Output, NoMemory>
     ensures { IfOk result (IsOutputOfCheck said flags.is_strict reasons) }
@@ -73,8 +73,8 @@ fn output_of_check(said: NetworkOutput, reasons: String, flags: Flags) -> Result
     })
 }
 
-/// Runs a network and returns the output of `net`. The status is 1 if a warning or a loss is an error. After such a warning, the network
-/// doesn't run. `run_network_request` calls it.
+/// Runs a network and returns the output of `net`. The status is 1 if a warning or a loss is an error. If a warning is an error, the
+/// network doesn't run. `run_network_request` calls it.
 pub(crate) fn run_network<H: AllocGlobal + Eprint + Files>(
     files: &mut CommandFiles<'_, H>,
     job: &NetworkRunRequest<'_>,
@@ -133,7 +133,8 @@ fn rounds_line(alloc: Global, rounds: u32) -> String {
     }
 }
 
-/// Draws a network into `file`, or to standard output for `-`, and returns the output of `picture`. `draw` calls it.
+/// Draws a network into `file`, or to standard output for `-`, and returns the output of `picture`. Fails if the network is refused, or if
+/// a file fails. `draw` calls it.
 pub(crate) fn draw_network<H: AllocGlobal + Files>(
     files: &mut CommandFiles<'_, H>,
     path: &str,

@@ -16,7 +16,7 @@ use std::io::Write;
 use std::rt::Files;
 
 /// Returns the path of a bridge's folder: the folder `name` in the input or output folder `folder`. `read_inputs_of_plans`, `input_folders`
-/// and others call it.
+/// and 2 more call it.
 pub(crate) fn bridge_folder(alloc: Global, folder: &str, name: &str) -> Result<String, NoMemory>
     ensures { IfOk result (λ path. string_bytes path ≡ folder_path folder.now name.now) }
 {
@@ -93,7 +93,7 @@ pub(crate) fn table_path(alloc: Global, folder: &str, name: &str) -> Result<Stri
     Ok(format!(in alloc; "{folder}/{name}.csv")?)
 }
 
-/// Opens the table `name` in a folder for writing. `open_outputs` calls it.
+/// Opens the table `name` in a folder for writing. Fails if the table's file can't be opened. `open_outputs` calls it.
 fn open_table<H: AllocGlobal + Files>(
     files: &mut CommandFiles<'_, H>,
     folder: &str,
@@ -154,7 +154,8 @@ fn open_bridge<H: AllocGlobal + Files>(
     }
 }
 
-/// Creates the folder of each bridge in `output`, and opens the bridge's outputs there. `open_outputs` calls it.
+/// Creates the folder of each bridge in `output`, and opens the bridge's outputs there. Fails if a folder can't be made or an output can't
+/// be opened. `open_outputs` calls it.
 fn open_bridges<H: AllocGlobal + Files>(
     files: &mut CommandFiles<'_, H>,
     plans: &[Accepted<Global>],

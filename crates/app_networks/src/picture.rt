@@ -19,7 +19,8 @@ use std::fs::OpenFile;
 use std::io::Write;
 use std::rt::Files;
 
-/// Opens the file of the requested picture for writing. Returns `None` if no picture is requested. `open_run` calls it.
+/// Opens the file of the requested picture for writing. Returns `None` if no picture is requested. Fails if the picture's file can't be
+/// opened. `open_run` calls it.
 pub(crate) fn open_picture<H: AllocGlobal + Files>(
     files: &mut CommandFiles<'_, H>,
     path: &Option<String>,

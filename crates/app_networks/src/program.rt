@@ -67,8 +67,8 @@ fn perform_request<H: Input + AllocGlobal + Clock + Print + Eprint + Files>(
     }
 }
 
-/// Returns the output of a request: of its successful command, or of its failure. Keeps the texts that the command reads, so that an
-/// explanation needs no second reading.
+/// Returns the output of a request: of the command if it succeeds, otherwise of the failure. Keeps the texts that the command reads, so
+/// that an explanation needs no second reading.
 fn request_output<H: Input + AllocGlobal + Clock + Print + Eprint + Files>(
     rt: &H,
     words: &[String],
@@ -128,8 +128,8 @@ pub(crate) fn requested_run<'a>(
     }
 }
 
-/// Carries out the command of a request by the command's function. Keeps the texts that it reads in `texts`, for explanations.
-/// `request_output` calls it.
+/// Carries out the command of a request by the command's function. Keeps the texts that it reads in `texts`, for explanations. Fails with
+/// the failure of the command's function. `request_output` calls it.
 fn run_request<H: Input + AllocGlobal + Clock + Print + Eprint + Files>(
     rt: &H,
     request: &Request,
@@ -176,7 +176,7 @@ fn run_request<H: Input + AllocGlobal + Clock + Print + Eprint + Files>(
     }
 }
 
-/// Returns the output of `bounds`, with traffic or without. `run_request` calls it.
+/// Returns the output of `bounds`, with traffic or without. Fails with the failure of the command's function. `run_request` calls it.
 fn bound<H: AllocGlobal + Files>(
     files: &mut CommandFiles<'_, H>,
     plan: &String,
@@ -206,7 +206,8 @@ fn bound<H: AllocGlobal + Files>(
     }
 }
 
-/// Runs a network from one folder into another, and returns the output of `net`. `run_request` calls it.
+/// Runs a network from one folder into another, and returns the output of `net`. Fails with the failure of the command's function.
+/// `run_request` calls it.
 fn run_network_request<H: AllocGlobal + Eprint + Files>(
     files: &mut CommandFiles<'_, H>,
     network: &String,

@@ -33,7 +33,7 @@ pub(crate) fn bridge_commands_fault(alloc: Global, name: &str, fault: PlanFault)
 }
 
 /// Returns the name of the bridge with index `bridge`, from 0, or an empty text if it is missing. `read_inputs_of_plans`, `hop_prefix` and
-/// others call it.
+/// 4 more call it.
 pub(crate) fn bridge_name(bridges: &[BridgeRow<Global>], bridge: usize) -> &str
     ensures { result.now ≡ bridge_name bridges.now bridge }
 {
@@ -55,8 +55,8 @@ fn capture_fault_line(alloc: Global, name: &str, fault: RunFault) -> Result<Stri
     }
 }
 
-/// Returns the fault line of a network run whose inputs still change after the last allowed round: the bridge and the first such port.
-/// `run_failure` calls it.
+/// Returns the fault line of a network run whose inputs still change after the last allowed round. It names the bridge and port of the
+/// first input that still changes. `run_failure` calls it.
 fn unsettled_line(alloc: Global, name: &str, port: u8) -> Result<String, NoMemory>
     ensures { IfOk result (λ line. string_bytes line ≡ unsettled_line name.now port) }
 {

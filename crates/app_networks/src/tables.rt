@@ -99,7 +99,8 @@ fn hop_names(
     Ok(names)
 }
 
-/// Writes the rows of a stream to both tables, and returns the totals with its frames added. `write_both_tables` calls it.
+/// Writes the rows of a stream to both tables, and returns the totals with its frames added. Fails with `Broken` and the table if a table
+/// can't be written, or with `NoMemory`. `write_both_tables` calls it.
 fn put_stream_rows<V: Write, W: Write>(
     alloc: Global,
     file: &NetworkFile<Global>,
@@ -136,7 +137,8 @@ fn put_stream_rows<V: Write, W: Write>(
     })
 }
 
-/// Writes the rows of all streams to both tables, and returns the numbers of their frames. `write_tables` calls it.
+/// Writes the rows of all streams to both tables, and returns the numbers of their frames. Fails with `Broken` and the table if a table
+/// can't be written, or with `NoMemory`. `write_tables` calls it.
 fn write_both_tables<V: Write, W: Write>(
     alloc: Global,
     file: &NetworkFile<Global>,
@@ -176,7 +178,10 @@ fn write_both_tables<V: Write, W: Write>(
     Ok(totals)
 }
 
-/// Writes both tables: each begins with its header, followed by the rows of all streams in file order. `put_tables` calls it.
+/// Writes both tables: each begins with its header, followed by the rows of all streams in file order. Fails with `Broken` and the table if
+/// a table can't be written, or with `NoMemory`.
+///
+/// `put_tables` calls it.
 pub(crate) fn write_tables<V: Write, W: Write>(
     alloc: Global,
     file: &NetworkFile<Global>,
@@ -198,7 +203,7 @@ pub(crate) fn write_tables<V: Write, W: Write>(
     write_both_tables(alloc, file, links, settled, figures, streams, frames)
 }
 
-/// Completes the table `name` in `folder`, and returns its file. `end_tables` calls it.
+/// Completes the table `name` in `folder`, and returns its file. Fails if a table's file can't be written. `end_tables` calls it.
 fn end_table<F: Write + OpenFile + Drop>(
     alloc: Global,
     folder: &str,
@@ -276,7 +281,8 @@ fn give_up_tables<F: Write + OpenFile + Drop>(
     }
 }
 
-/// Completes both tables in `folder`, and returns their files with the numbers of all streams' frames. `put_tables` calls it.
+/// Completes both tables in `folder`, and returns their files with the numbers of all streams' frames. Fails if a table's file can't be
+/// written. `put_tables` calls it.
 fn end_tables<F: Write + OpenFile + Drop>(
     alloc: Global,
     folder: &str,

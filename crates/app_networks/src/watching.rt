@@ -5,7 +5,7 @@ use net_file::BridgeRow;
 use net_run::{BridgeInput, RoundObserver};
 use std::alloc::Global;
 
-/// Observer of a network run that shows its round and its bridge on standard error. Shows nothing unless `is_wanted` is true.
+/// Observer of a network run. It shows the current round and bridge on standard error. Shows nothing unless `is_wanted` is true.
 #[derive(Drop)]
 pub(crate) struct ProgressPrinter<'a, H> {
     pub(crate) rt: &'a H,

@@ -44,7 +44,8 @@ fn put_tap<F: Write + OpenFile + Drop>(
     }
 }
 
-/// Writes the captures of a bridge's ports to their files by rising port, and returns the files. `write_bridge` calls it.
+/// Writes the captures of a bridge's ports to their files by rising port, and returns the files. Fails if a capture can't be written.
+/// `write_bridge` calls it.
 fn write_captures<F: Write + OpenFile + Drop>(
     alloc: Global,
     folder: &str,
@@ -96,7 +97,8 @@ fn write_report_file<F: Write + OpenFile + Drop>(
     }
 }
 
-/// Writes the captures and the report of a bridge to its folder, and returns the files. `write_bridges` calls it.
+/// Writes the captures and the report of a bridge to its folder, and returns the files. Fails if a capture or report can't be written.
+/// `write_bridges` calls it.
 fn write_bridge<F: Write + OpenFile + Drop>(
     alloc: Global,
     plan: &Plan<Global>,
@@ -128,7 +130,8 @@ fn write_bridge<F: Write + OpenFile + Drop>(
     }
 }
 
-/// Writes the captures and the report of each bridge to its folder in `output`, and returns the files. `write_results` calls it.
+/// Writes the captures and the report of each bridge to its folder in `output`, and returns the files. Fails if a capture or report can't
+/// be written. `write_results` calls it.
 pub(crate) fn write_bridges<F: Write + OpenFile + Drop>(
     alloc: Global,
     network: &Network<Global>,

@@ -80,8 +80,8 @@ pub record IsEdge (opens : ℕ → Bool) (occ c : ℕ) : Type 0 where
 abbrev pub HaveShortFrames : {X : Type 0} → PortRules X → ℕ → ℕ → List (Copy X) → Type 0
 HaveShortFrames r c occ xs = (y : Copy _) → IsMember y xs → (y.class ≡ c) × (r.occ y.item ≤ occ)
 
--- Holds if a queue alone on its link has a copy that leaves `d` ns after its offer. All its copies have transmission
--- times of at most `occ` ns.
+-- Holds if a queue alone on its link has a copy that leaves `d` ns after the copy's offer. All its copies have
+-- transmission times of at most `occ` ns.
 pub record HasWorstCopy {X : Type 0} (r : PortRules X) (c occ d : ℕ) : Type 0 where
   pub copy : Copy X
   pub older : List (Copy X)

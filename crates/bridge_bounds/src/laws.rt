@@ -52,7 +52,7 @@ pub fn one_after_another()
         → IsTimeAttained opens occ k (k * occ) }
 {}
 
-/// In a queue alone on its link, each sent copy leaves at most `occ - 1 + d` ns after its offer.
+/// In a queue alone on its link, each sent copy leaves at most `occ - 1 + d` ns after the copy's offer.
 ///
 /// Here `d` ns is a full queue's longest time; transmissions take at most `occ` ns. Delay bounds by capacity rest on it.
 pub fn solo_in_time<X: Drop>()
@@ -66,7 +66,8 @@ pub fn solo_in_time<X: Drop>()
         → s + r.occ x.item ≤ x.at + (occ - 1) + d }
 {}
 
-/// If a queue has its link to itself, each sent copy leaves at most `occ - 1 + d` ns after its offer. `lets` must be true at each offer.
+/// If a queue has its link to itself, each sent copy leaves at most `occ - 1 + d` ns after the copy's offer. `lets` must be true at each
+/// offer.
 ///
 /// Here `d` ns is a full queue's longest time, from `occ` - 1 ns after a time at which `lets` is true. Transmissions take at most `occ` ns.
 /// Delay bounds by capacity rest on it.

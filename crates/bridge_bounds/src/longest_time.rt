@@ -63,8 +63,8 @@ pub(crate) fn last_fit<A: Allocator + Copy>(
     None
 }
 
-/// Returns the number of frames, at most `most`, that leave one after another from `start` on in one window. A frame fits at `start`.
-/// `frames_end`, `repeating_round` and `frames_duration` call it.
+/// Returns the number of frames of `occ` ns, at most `most`, that leave in one window, one after another from `start` ns on. A frame fits
+/// at `start`. `frames_end`, `repeating_round` and `frames_duration` call it.
 fn window_frames<A: Allocator + Copy>(
     list: &CyclicList<u8, A>,
     class: u8,
@@ -164,10 +164,11 @@ fn repeating_round<A: Allocator + Copy>(
     (room, end)
 }
 
-/// Returns the time in ns at which `room` frames that wait from `from` on have left. The first `done` of them have left at `end`.
+/// Returns the time in ns at which `room` frames of `occ` ns have left if they wait from `from` on. The first `done` frames have left at
+/// `end`.
 ///
-/// If the next frame starts whole cycles after the first, each further `done` frames repeat the first, and the function skips these
-/// repetitions. `frames_duration` calls it.
+/// If the next frame starts whole cycles after the first, these `done` frames repeat; the function then adds whole rounds by arithmetic,
+/// without a loop. `frames_duration` calls it.
 fn end_after_rounds<A: Allocator + Copy>(
     list: &CyclicList<u8, A>,
     class: u8,

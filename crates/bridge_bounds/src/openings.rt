@@ -21,8 +21,10 @@ use bridge_gate::{GateEntry, Schedule};
 use bridge_limits::LONGEST_FRAME;
 use std::alloc::Allocator;
 
-/// Whether `entry` is open and can give priority `k` to a frame of a filter with the optional priority `priority`. Without any priority,
-/// `k` can be any. `fills_class` calls it.
+/// Whether `entry` is open and can give priority `k` to a frame of a filter with the optional priority `priority`. If both the entry and
+/// the filter lack a priority, `k` can be any.
+///
+/// `fills_class` calls it.
 fn gives_priority(entry: &GateEntry, priority: Option<u8>, k: u8) -> bool
     ensures { result ≡ reached.gives_priority entry.now priority k }
 {

@@ -41,7 +41,7 @@ fn are_all_tagged(handle: u32, streams: &[StreamEntry]) -> bool
 /// Returns the largest possible SDU in octets of a frame with stream handle `handle` and a length of `len` octets. Without a handle, the
 /// frame may be untagged.
 ///
-/// `passes` and functions of `net_latency` call it.
+/// `passes`, `admits_row` of `net_latency` and 2 more call it.
 pub fn longest_sdu<A: Allocator + Copy>(plan: &Plan<A>, handle: Option<u32>, len: u32) -> u32
     ensures { result ≡ spec.longest_sdu plan.now handle len }
 {
@@ -75,8 +75,8 @@ fn can_pass_entry(entry: &GateEntry, sdu: u32) -> bool
     }
 }
 
-/// Whether an interval with an octet limit and the end `end` ends by time `until`, when the next frame may arrive. Returns true without a
-/// limit. `can_pass_list` calls it.
+/// Whether an interval with an octet limit and the end `end` ns ends by time `until` in ns, when the next frame may arrive. Returns true
+/// without a limit. `can_pass_list` calls it.
 fn is_limit_reset_in_time(octets: Option<u32>, end: u64, until: u64) -> bool
     ensures { result ≡ spec.is_limit_reset_in_time octets end until }
 {
@@ -86,8 +86,8 @@ fn is_limit_reset_in_time(octets: Option<u32>, end: u64, until: u64) -> bool
     }
 }
 
-/// Whether each interval that contains a time from `from` to `to` passes one frame of `sdu` octets. Looks at no more than one cycle of the
-/// list. `can_pass_list` calls it.
+/// Whether each interval that contains a time from `from` to `to` in ns passes one frame of `sdu` octets. Looks at no more than one cycle
+/// of the list. `can_pass_list` calls it.
 fn can_pass_turns<A: Allocator + Copy>(
     list: &CyclicList<GateEntry, A>,
     from: u64,
@@ -160,7 +160,7 @@ fn can_pass_schedule<A: Allocator + Copy>(
 /// Whether `filter` passes each own frame if these frames keep `traffic`. Their size must be allowed, the filter must have no meter, and
 /// its stream gate must pass each frame.
 ///
-/// Functions of `net_check` and `net_latency` call it.
+/// `passes_hop` of `net_check`, `hop_passes` of `net_latency` and 4 more call it.
 pub fn passes<A: Allocator + Copy>(plan: &Plan<A>, filter: &FilterPlan, traffic: &Traffic) -> bool
     requires traffic { IsTraffic traffic.now }
     ensures { (result ≡ true) ↔ Passes plan.now filter.now traffic.now }

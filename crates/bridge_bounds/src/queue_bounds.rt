@@ -18,8 +18,8 @@ use bridge_frame::occupation;
 use bridge_limits::LONGEST_FRAME;
 use std::alloc::Allocator;
 
-/// Returns the stream filter with number `number`; `None` if the list lacks it. `is_coarse`, `queue_bound` and functions of
-/// `bridge_groups`, `net_check`, `net_latency` and other crates call it.
+/// Returns the stream filter with number `number`; `None` if the list lacks it. `is_coarse`, `gate_work_bound` of `bridge_groups` and many
+/// more call it.
 pub fn find_filter(filters: &[(u32, FilterPlan)], number: u32) -> Option<FilterPlan>
     ensures { result ≡ lookup (nat_eq number) filters.now }
 {
@@ -34,7 +34,7 @@ pub fn find_filter(filters: &[(u32, FilterPlan)], number: u32) -> Option<FilterP
 /// Returns the delay bound in ns of a queue by its capacity, for frames with a service data unit of at most `sdu` octets. Assumes arrivals
 /// at any time.
 ///
-/// `list_bound`, `gate_list_bound`, `gate_bound` and functions of `bridge_groups` call it.
+/// `list_bound`, `shared_queue` of `bridge_groups` and 2 more call it.
 pub fn class_bound<A: Allocator + Copy>(port: &PortPlan<A>, class: u8, sdu: u32) -> u64
     requires class { class < 8 }
     requires sdu { sdu ≤ 65535 }
@@ -46,8 +46,8 @@ pub fn class_bound<A: Allocator + Copy>(port: &PortPlan<A>, class: u8, sdu: u32)
     occupied - 1 + longest
 }
 
-/// Returns the delay bound in ns, by capacity, of a queue that protected filter `number` can reach. The result is never `None`, because
-/// such a filter has a maximum SDU. `queue_bound` calls it.
+/// Returns the delay bound in ns, by capacity, of a queue that protected filter `number` can reach. The result is never `None`, because a
+/// protected filter has a maximum SDU. `queue_bound` calls it.
 fn reached_queue_bound<A: Allocator + Copy>(
     plan: &Plan<A>,
     number: u32,

@@ -47,7 +47,7 @@ fn lesser_bound<A: Allocator + Copy>(
     bound.min(occupied - 1 + longest)
 }
 
-/// Returns `bound`, or a lesser bound if the stream gate's only list passes fewer frames per interval than the queue's capacity.
+/// Returns `bound`, in ns, or a lesser bound if the stream gate's only list passes fewer frames per interval than the queue's capacity.
 /// `tight_reached_queue_bound` calls it.
 fn tighten_bound<A: Allocator + Copy>(
     schedule: &Schedule<A>,

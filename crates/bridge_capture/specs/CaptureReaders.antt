@@ -50,8 +50,8 @@ abbrev pub FindsNext : {A : Type 0} → List ℕ → List CapturedFrame → Opti
 FindsNext text given None = IsCapture text given AtEnd
 FindsNext text given (Some p) = HasReadFrames text (given ++ packet_frame p ∷ [])
 
--- Holds if the frames `taken` were taken from the reader; its frame ahead is the next frame of the file contents, or
--- `None` at their end.
+-- Holds if the frames `taken` were taken from the reader; its frame ahead is the next frame of the file contents. At
+-- their end, the frame ahead is `None`.
 pub record IsOneAhead {A : Type 0} (lane : CaptureReader A) (remaining : Option (List ℕ)) (text : List ℕ) (taken : List CapturedFrame) : Type 0 where
   pub stands : StandsFor lane.capture remaining text (taken ++ frame_ahead lane.ahead)
   pub finds : FindsNext text taken lane.ahead
@@ -93,8 +93,8 @@ HaveRests {R} remaining ports rests sources = (i q : ℕ) (r : R) → slice_get 
 abbrev pub AreUnread : (ℕ → List ℕ) → (ℕ → Option (List ℕ)) → List ℕ → Type 0
 AreUnread texts rests ports = (i q : ℕ) → slice_get ports i ≡ Some q → rests q ≡ Some (texts q)
 
--- Holds if for each reader, the frames `taken` of its port were taken; its frame ahead is the capture's next frame,
--- or `None` at the end.
+-- Holds if for each reader, the frames `taken` of its port were taken, and the reader's frame ahead is the capture's
+-- next frame. At the capture's end, the frame ahead is `None`.
 abbrev pub AreOneAhead : {A R : Type 0} → (R → Option (List ℕ)) → (ℕ → List ℕ) → (ℕ → List CapturedFrame) → List (CaptureReader A) → List R → Type 0
 AreOneAhead {A} {R} remaining texts taken lanes sources = (i : ℕ) (lane : CaptureReader A) (r : R) → slice_get lanes i ≡ Some lane → slice_get sources i ≡ Some r → IsOneAhead lane (remaining r) (texts lane.number) (taken lane.number)
 

@@ -131,7 +131,7 @@ front_item form place octets =
 
 -- Whole capture.
 
--- How the reading of a capture ends: after its last octet without a fault (AtEnd), or at its first fault (AtFault).
+-- How the reading of a capture ends: after the last octet without a fault (AtEnd), or at the first fault (AtFault).
 pub data CaptureEnding : Type 0 where
   AtEnd : CaptureEnding
   AtFault : CaptureFault → CaptureEnding

@@ -22,7 +22,8 @@ abbrev pub octet_and_rest : Option ℕ → ℕ → Result (List ℕ) HexFault �
 octet_and_rest None room others = Err NotHex
 octet_and_rest (Some octet) room others = if room == 0 then Err TooLong else with_octet octet others
 
--- Octets of a text, at most `room`: pairs of hexadecimal digits, with blanks between pairs; or the first fault from the left.
+-- Octets that a text of hexadecimal digit pairs encodes. Blanks may stand anywhere except inside a pair. The first
+-- fault from the left is the result: `NotHex`, or `TooLong` for more than `room` octets.
 unfoldable pub octets_with_room : ℕ → List ℕ → Result (List ℕ) HexFault
 octets_with_room room [] = Ok []
 octets_with_room room (c ∷ []) = if is_blank c then Ok [] else Err NotHex

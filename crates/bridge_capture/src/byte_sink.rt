@@ -19,8 +19,8 @@ pub trait ByteSink {
     /// Whether memory for the sink ran out.
     ghost ran_out: { Self → Bool };
 
-    /// Writes a prefix of `octets`, and returns its length: at least 1 unless `octets` is empty. `write_all` and `write_by_many_writes`
-    /// call it until all octets are written.
+    /// Writes a prefix of `octets`, and returns its length: at least 1 unless `octets` is empty. Fails if the sink fails. `write_all` and
+    /// `write_by_many_writes` call it until all octets are written.
     fn write(&mut self, octets: &[u8]) -> Result<usize, Broken>
         ensures count { IfOk result (λ n. n ≤ length octets.now) }
         ensures some { IfOk result (λ n. 0 < length octets.now → 0 < n) }

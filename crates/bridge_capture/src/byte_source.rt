@@ -23,8 +23,8 @@ pub trait ByteSource {
     /// Next octets that the source lends without reading.
     ghost at_hand: { Self → List ℕ };
 
-    /// Reads the next octets to the front of `buf`, and returns their number. 0 means the end, unless `buf` is empty. `fill_buffer`,
-    /// `fill_by_many_reads` and `overwrite_octets` call it.
+    /// Reads the next octets to the front of `buf`, and returns their number. 0 means the end, unless `buf` is empty. Fails if the source
+    /// fails. `fill_buffer`, `fill_by_many_reads` and `overwrite_octets` call it.
     fn read(&mut self, buf: &mut [u8]) -> Result<usize, Broken>
         ensures count { IfOk result (λ n. n ≤ length buf.new) }
         ensures bytes { ReadConsumes (remaining self.old) (remaining self.new) result buf.new }

@@ -45,7 +45,8 @@ impl Capture {
     ghost use Rattle.bridge_capture.specs.StandsFor.{StandsFor, BeginsCapture, AnswersNext, IsReading, HasEnded, HasRefused, records_left, TakesRefusedNext};
     ghost use Rattle.bridge_capture.specs.TakenOctets.{TakesRefusedHeader};
 
-    /// Reads the header of a capture. Allocates no memory. `CaptureReader::begin` and `capture_fault` of `app_commands` call it.
+    /// Reads the header of a capture. Allocates no memory. Fails if the header is refused or the source fails. `CaptureReader::begin` and
+    /// `capture_fault` of `app_commands` call it.
     pub fn begin<R: ByteSource>(source: &mut R) -> Result<Capture, CaptureFault>
         ensures stands { (text : List ℕ) → R.remaining source.old ≡ Some text
             → BeginsCapture text (R.remaining source.new) result }
@@ -83,7 +84,8 @@ impl Capture {
         }
     }
 
-    /// Reads the next packet; `None` at the end of the capture. Allocates memory at most once, for the packet's octets.
+    /// Reads the next packet; `None` at the end of the capture. Allocates memory at most once, for the packet's octets. Fails if the record
+    /// is refused, the source fails or memory runs out.
     pub fn next<R: ByteSource, A: Allocator>(
         &mut self,
         alloc: A,
@@ -126,8 +128,10 @@ impl Capture {
         }
     }
 
-    /// Reads the next packet into the caller's vector. Allocates memory only if the octets exceed the vector's capacity. Without a
-    /// packet, the vector's contents have no meaning.
+    /// Reads the next packet into the caller's vector. Allocates memory only if the octets exceed the vector's capacity. Without a packet,
+    /// the vector's contents have no meaning.
+    ///
+    /// Fails if the record is refused, the source fails or memory runs out.
     #[inline(always)]
     pub fn read_packet<R: ByteSource, A: Allocator>(
         &mut self,

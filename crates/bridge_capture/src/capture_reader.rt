@@ -99,8 +99,8 @@ impl<A: Allocator + Copy> CaptureReader<A> {
     }
 }
 
-/// Returns the run's fault for a capture fault of `port`. Lack of memory becomes `NoMemory` of the run. `begin_readers` and functions of
-/// `bridge_core` and `bridge_wire` call it.
+/// Returns the run's fault for a capture fault of `port`. Lack of memory becomes `NoMemory` of the run. `begin_readers`, `process_frame` of
+/// `bridge_core` and 2 more call it.
 pub fn run_fault(port: u8, fault: CaptureFault) -> RunFault
     ensures { result ≡ run_fault port fault }
 {

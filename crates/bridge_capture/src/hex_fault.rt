@@ -8,7 +8,7 @@ use thiserror::Error;
 /// Reason why a text gives no octets.
 #[derive(Clone, Copy, Debug, PartialEq, Eq, Error)]
 pub enum HexFault {
-    /// A character isn't a hexadecimal digit or a blank between pairs, or the last digit has no partner.
+    /// A character is neither a hexadecimal digit nor a blank, a blank stands inside a pair, or the last digit has no partner.
     #[error("the text is not hexadecimal")]
     NotHex,
     /// The text has more than `MAX_OCTETS` octets or `MAX_TEXT_BYTES` bytes.

@@ -27,8 +27,8 @@ fn parse_octet(high: u8, low: u8) -> Option<u8>
     Some((16 * high + low) as u8)
 }
 
-/// Parses pairs of hexadecimal digits of either case, with blanks between pairs. Allocates memory at most once. `wire_text` of
-/// `app_commands` calls it.
+/// Parses pairs of hexadecimal digits of either case. Blanks may stand anywhere except inside a pair. Allocates memory at most once.
+/// `wire_text` of `app_commands` calls it.
 ///
 /// A text over `MAX_TEXT_BYTES` is too long. For any other text, returns the first fault from the left.
 pub fn parse_octets<A: Allocator>(alloc: A, text: &[u8]) -> Result<Vec<u8, A>, HexFault>

@@ -85,7 +85,7 @@ impl<A: Allocator> ReadBuffer<A> {
         self.start += count;
     }
 
-    /// Fills the empty buffer with one read of the source. `read_with_refill` calls it.
+    /// Fills the empty buffer with one read of the source. Fails if the source fails. `read_with_refill` calls it.
     pub fn refill<R: ByteSource>(&mut self, source: &mut R) -> Result<(), Broken>
         requires { self.old.start ≡ self.old.end }
         ensures kept { Keeps (R.remaining source.old)
@@ -107,8 +107,8 @@ impl<A: Allocator> ReadBuffer<A> {
     }
 }
 
-/// Reads octets of the source into `octets`, over the old ones, by one read. Returns their number; 0 at the source's end. `refill` calls
-/// it.
+/// Reads octets of the source into `octets`, over the old ones, by one read. Returns their number; 0 at the source's end. Fails if the
+/// source fails. `refill` calls it.
 fn overwrite_octets<R: ByteSource, A: Allocator>(
     source: &mut R,
     octets: &mut Vec<u8, A>,

@@ -103,8 +103,8 @@ fn check_record_header(number: u32, earliest: u64, head: RecordHeader) -> Result
     Ok(())
 }
 
-/// Reads the `captured` octets of record `number` into the vector `octets`, which loses its old contents. `read_unbuffered_record` calls
-/// it.
+/// Reads the `captured` octets of record `number` into the vector `octets`, which loses its old contents. Fails if the record is refused,
+/// the source fails or memory runs out. `read_unbuffered_record` calls it.
 #[inline(always)]
 fn read_octets<R: ByteSource, A: Allocator>(
     number: u32,
@@ -166,7 +166,9 @@ fn parse_buffered_header(
 }
 
 /// Reads record `number`; `None` if no octets remain. The previous record had the time `earliest`. The record's octets replace the vector's
-/// contents. `read_packet` calls it.
+/// contents. Fails if the record is refused, the source fails or memory runs out.
+///
+/// `read_packet` calls it.
 #[inline(always)]
 pub fn read_next_record<R: ByteSource, A: Allocator>(
     form: CaptureFormat,

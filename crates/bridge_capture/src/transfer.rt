@@ -10,7 +10,7 @@ use crate::byte_source::{Broken, ByteSource};
 /// Fills `buf` with octets of the source, and returns their number. The number is less than the buffer's length only at the end of the
 /// source.
 ///
-/// `Capture::begin`, `read_octets` and `read_unbuffered_record` call it.
+/// Fails if the source fails. `Capture::begin`, `read_octets` and `read_unbuffered_record` call it.
 #[inline(always)]
 pub fn fill_buffer<R: ByteSource>(source: &mut R, buf: &mut [u8]) -> Result<usize, Broken>
     ensures count { IfOk result (λ n. n ≤ length buf.new) }
@@ -37,7 +37,8 @@ pub fn fill_buffer<R: ByteSource>(source: &mut R, buf: &mut [u8]) -> Result<usiz
     }
 }
 
-/// Fills `buf` by as many reads as needed, and returns the number of octets. `fill_buffer` calls it if the first read gave too few octets.
+/// Fills `buf` by as many reads as needed, and returns the number of octets. Fails if the source fails. `fill_buffer` calls it if the first
+/// read gave too few octets.
 #[cold]
 #[inline(never)]
 fn fill_by_many_reads<R: ByteSource>(source: &mut R, buf: &mut [u8]) -> Result<usize, Broken>

@@ -74,7 +74,8 @@ impl Writer {
     }
 }
 
-/// Writes a record's header, then its octets, for a sink that can't accept both at once. `Writer::put` calls it.
+/// Writes a record's header, then its octets, for a sink that can't accept both at once. Fails with `Write` if the sink fails.
+/// `Writer::put` calls it.
 #[cold]
 #[inline(never)]
 fn write_parts<W: ByteSink>(

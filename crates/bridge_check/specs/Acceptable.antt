@@ -20,8 +20,8 @@ IsAcceptable p = (n : ℕ) (f : FilterPlan) → IsMember (n, f) p.filters → f.
 abbrev pub HasAcceptableGroups : {A : Type 0} → Plan A → Type 0
 HasAcceptableGroups p = (k n : ℕ) (f : FilterPlan) → IsMember (n, f) p.filters → f.group ≡ Some k → member_fault p k n f ≡ None
 
--- A filter's isolation in terms of frames: filter `f` has its stream gate, its meter, its queues and their windows for itself. Its longest
--- frame fits a window of each queue.
+-- A filter's isolation in terms of frames: filter `f` has stream gate, meter, queues and their windows for itself. The
+-- filter's longest frame fits a window of each queue.
 --
 -- The filter names a stream handle and a maximum SDU, and the plan has a catch-all filter.
 pub record IsIsolated {A : Type 0} (p : Plan A) (n : ℕ) (f : FilterPlan) : Type 0 where
@@ -34,8 +34,8 @@ pub record IsIsolated {A : Type 0} (p : Plan A) (n : ℕ) (f : FilterPlan) : Typ
   pub window : (q c : ℕ) (port : PortPlan A) → find_port p.ports q ≡ Some port → reaches_queue p f q c ≡ true → (d u : ℕ) → lists_open port.list c u ≡ true → lists_open port.list d u ≡ true → d ≡ c
   pub fits : (q c m : ℕ) (port : PortPlan A) → find_port p.ports q ≡ Some port → reaches_queue p f q c ≡ true → f.max_sdu ≡ Some m → (t : ℕ) × Fits (lists_open port.list c) (transmission_time (longest_frame m) port.speed) t
 
--- A grouped filter's isolation in terms of frames: its gate, meter and windows serve no other filter, and its queues serve group `k`. Its
--- longest frame fits a window of each queue.
+-- A grouped filter's isolation in terms of frames: the filter's gate, meter and windows serve no other filter, and its
+-- queues serve group `k`. The filter's longest frame fits a window of each queue.
 --
 -- The filter names a stream handle and a maximum SDU, and the plan has a catch-all filter.
 pub record IsIsolatedMember {A : Type 0} (p : Plan A) (k n : ℕ) (f : FilterPlan) : Type 0 where

@@ -38,7 +38,8 @@ is_greatest_number filters n = list_all (λ g. nat_le g.0 n) filters
 abbrev pub has_catch_all : List (ℕ × FilterPlan) → Bool
 has_catch_all filters = list_any (λ g. is_greatest_number filters g.0 && not (is_some g.1.handle) && not (is_some g.1.priority)) filters
 
--- The lowest number, other than `n`, of a filter in the list that can reach class `c` at port `q`; `None` without such a filter.
+-- The lowest number, other than `n`, of a filter in the list that can reach class `c` at port `q`. `None` if no other
+-- filter can.
 abbrev pub other_in_queue : {A : Type 0} → Plan A → List (ℕ × FilterPlan) → ℕ → ℕ → ℕ → Option ℕ
 other_in_queue p [] n q c = None
 other_in_queue p (g ∷ gs) n q c = if not (nat_eq g.0 n) && reaches_queue p g.1 q c then lesser_number (Some g.0) (other_in_queue p gs n q c) else other_in_queue p gs n q c
@@ -48,7 +49,8 @@ abbrev pub is_in_group : ℕ → Option ℕ → Bool
 is_in_group k None = false
 is_in_group k (Some g) = nat_eq g k
 
--- The lowest number of a filter in the list, outside group `k`, that can reach class `c` at port `q`; `None` without such a filter.
+-- The lowest number of a filter in the list, outside group `k`, that can reach class `c` at port `q`. `None` if no
+-- filter outside the group can.
 abbrev pub outsider_in_queue : {A : Type 0} → Plan A → List (ℕ × FilterPlan) → ℕ → ℕ → ℕ → Option ℕ
 outsider_in_queue p [] k q c = None
 outsider_in_queue p (g ∷ gs) k q c = if not (is_in_group k g.1.group) && reaches_queue p g.1 q c then lesser_number (Some g.0) (outsider_in_queue p gs k q c) else outsider_in_queue p gs k q c
@@ -64,13 +66,15 @@ unfoldable pub first_among_numbers : {X : Type 0} → ℕ → (ℕ → Option X)
 first_among_numbers zero tell = None
 first_among_numbers (suc n) tell = first_option (first_among_numbers n tell) (tell n)
 
--- The first fault that `tell port class` returns for a reachable queue of filter `f`, or `None`. Ports rise from 1 to
--- 16, and classes from 0 to 7 at each port.
+-- The first fault that `tell port class` returns for a reachable queue of filter `f`. `None` if every queue passes.
+-- Ports rise from 1 to 16, and classes from 0 to 7 at each port.
 abbrev pub first_fault_in_reach : {A : Type 0} → Plan A → FilterPlan → (ℕ → ℕ → Option CheckFault) → Option CheckFault
 first_fault_in_reach p f tell = first_among_numbers 16 (λ i. first_among_numbers 8 (λ c. if reaches_queue p f (i + 1) c then tell (i + 1) c else None))
 
--- Offset in ns from the cycle's start at which the port first opens class `c` together with another class, or `None`. A
--- port without a list gives 0, and a missing port `None`.
+-- Offset in ns from the cycle's start at which the port first opens class `c` together with another class. `None` if
+-- class `c` never opens together with another, or if the port is missing.
+--
+-- A port without a list gives 0.
 abbrev pub shared_phase_if_port : {A : Type 0} → Option (PortPlan A) → ℕ → Option ℕ
 shared_phase_if_port None c = None
 shared_phase_if_port (Some port) c = port_shared_phase port.list c

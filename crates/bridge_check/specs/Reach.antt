@@ -28,8 +28,8 @@ is_null_kind Source = false
 abbrev pub are_null_kinds : ℕ → List StreamEntry → Bool
 are_null_kinds h streams = list_all (λ e. not (nat_eq e.handle h) || is_null_kind e.kind) streams
 
--- True if, for some stream entry with handle `h`, a frame from its port and VLAN to its address is forwarded to port
--- `q`.
+-- True if, for some stream entry with handle `h`, a frame from the entry's port and VLAN to its address is forwarded to
+-- port `q`.
 abbrev pub leads_through_port : Database → ℕ → ℕ → List StreamEntry → Bool
 leads_through_port db h q streams = list_any (λ e. nat_eq e.handle h && has_port (forward db e.port e.vid e.address) q) streams
 

@@ -48,8 +48,10 @@ abbrev pub least_outsider : List FilterReach → Option ℕ → ℕ → ℕ → 
 least_outsider [] group n q classes c = None
 least_outsider (r ∷ rs) group n q classes c = if is_outsider group n r && has_queue r.reach q classes c then lesser_number (Some r.number) (least_outsider rs group n q classes c) else least_outsider rs group n q classes c
 
--- The lowest number of a filter that can reach class `c` at port `q`, or `None`. With a group, only filters outside the group count;
--- otherwise all filters other than `n`.
+-- The lowest number of a filter that can reach class `c` at port `q`. With a group, only filters outside the group
+-- count; otherwise all filters other than `n`.
+--
+-- `None` if no counted filter reaches the class.
 abbrev pub other_or_outsider : {A : Type 0} → Plan A → Option ℕ → ℕ → ℕ → ℕ → Option ℕ
 other_or_outsider p None n q c = other_in_queue p p.filters n q c
 other_or_outsider p (Some k) n q c = outsider_in_queue p p.filters k q c

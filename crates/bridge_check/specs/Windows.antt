@@ -15,19 +15,19 @@ use Rattle.bridge_check.specs.Reach.{some_number_passes}
 abbrev pub is_shared : ℕ → ℕ → Bool
 is_shared state c = is_open state c && some_number_passes 8 (λ d. not (nat_eq d c) && is_open state d)
 
--- Start offset in ns of the first entry that opens class `c` together with another class, or `None`. The first entry of
--- the list starts at `start`.
+-- Start offset in ns of the first entry that opens class `c` together with another class. `None` if no entry does. The
+-- first entry of the list starts at `start`.
 abbrev pub shared_phase : List (ℕ × ℕ) → ℕ → ℕ → Option ℕ
 shared_phase [] start c = None
 shared_phase (e ∷ es) start c = if is_shared e.0 c then Some start else shared_phase es (start + e.1) c
 
 -- Offset in ns, from the cycle's start, of the first entry in list `l` that opens class `c` together with another
--- class, or `None`.
+-- class. `None` if no entry does.
 abbrev pub list_shared_phase : cyclic.Cyclic ℕ → ℕ → Option ℕ
 list_shared_phase l c = shared_phase l.entries 0 c
 
--- Offset in ns at which a port's lists, old before new, first open class `c` together with another class, or `None`. A
--- port without a list gives 0.
+-- Offset in ns at which a port's lists, old before new, first open class `c` together with another class. `None` if
+-- neither list does. A port without a list gives 0.
 abbrev pub port_shared_phase : {A : Type 0} → Option (Egress A) → ℕ → Option ℕ
 port_shared_phase None c = Some 0
 port_shared_phase (Some (Cyclic l)) c = list_shared_phase l c

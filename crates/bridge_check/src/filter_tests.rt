@@ -104,7 +104,9 @@ fn queue_group(filter: &FilterPlan) -> Option<u32>
 
 impl<'a, A: Allocator + Copy> FilterCase<'a, A> {
     /// Returns the lowest number of a filter that can reach class `class` at `port` (number `q`), but may not share this queue. `None` if
-    /// no such filter can reach the class. `queue_test_fault` calls it.
+    /// only filters that may share the queue can reach the class.
+    ///
+    /// `queue_test_fault` calls it.
     fn other_filter_in_queue(&self, port: &PortPlan<A>, q: u8, class: u8) -> Option<u32>
         requires port { find_port self.now.plan.now.ports q ≡ Some port.now }
         requires from { 1 ≤ q }

@@ -59,8 +59,8 @@ fn destination_ports<A: Allocator + Copy>(plan: &Plan<A>, handle: u32) -> [bool;
     ports
 }
 
-/// Whether `entry` is open and can give a frame priority `k`: by its internal priority value, or without one by the filter's `priority`. If
-/// both are missing, it can give each priority.
+/// Whether `entry` is open and can give a frame priority `k`: by its internal priority value or, if it has none, the filter's `priority`.
+/// If both are missing, the entry can give each priority.
 ///
 /// `entries_give_priority` and `lets` call it.
 fn gives_priority(entry: &GateEntry, priority: Option<u8>, k: u8) -> bool
@@ -126,8 +126,8 @@ fn given_priorities<A: Allocator + Copy>(schedule: &Schedule<A>, priority: Optio
     priorities
 }
 
-/// Returns the stream gate with number `number`; `None` if the list lacks it. `reached_priorities` and functions of `bridge_bounds`,
-/// `bridge_groups`, `net_latency` and other crates call it.
+/// Returns the stream gate with number `number`; `None` if the list lacks it. `reached_priorities`, `is_coarse` of `bridge_bounds` and many
+/// more call it.
 pub fn find_gate<A: Allocator + Copy>(
     gates: &[(u32, GatePlan<A>)],
     number: u32,
@@ -174,8 +174,8 @@ fn reached_priorities<A: Allocator + Copy>(plan: &Plan<A>, filter: &FilterPlan) 
     }
 }
 
-/// Returns the reach of `filter`, in one pass through the plan's streams. `test_filter`, `can_wait` and functions of `bridge_groups`,
-/// `net_check`, `net_latency` and other crates call it.
+/// Returns the reach of `filter`, in one pass through the plan's streams. `test_filter`, `plan_reaches` of `bridge_groups` and 9 more call
+/// it.
 pub fn filter_reach<A: Allocator + Copy>(plan: &Plan<A>, filter: &FilterPlan) -> Reach
     ensures { result ≡ reached.filter_reach plan.now filter.now }
 {
@@ -185,8 +185,8 @@ pub fn filter_reach<A: Allocator + Copy>(plan: &Plan<A>, filter: &FilterPlan) ->
     }
 }
 
-/// Whether the frames of `filter` can enter the queue of class `class` at port `port`, 1 to 16. Functions of `bridge_bounds`,
-/// `bridge_groups`, `show_lint` and other crates call it.
+/// Whether the frames of `filter` can enter the queue of class `class` at port `port`, 1 to 16. `queue_bound` of `bridge_bounds`,
+/// `gate_work_bound` of `bridge_groups` and 6 more call it.
 #[tactic(auto, using(crate::proofs::Told::unreached, crate::proofs::Told::in_reach))]
 pub fn can_wait<A: Allocator + Copy>(
     plan: &Plan<A>,

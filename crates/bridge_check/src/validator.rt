@@ -93,8 +93,8 @@ fn numbered_fault<A: Allocator + Copy>(
     }
 }
 
-/// Returns the first fault of the lowest-numbered faulty filter, protected or grouped, with the filter's number; `None` if no such filter
-/// is faulty. `first_fault` calls it.
+/// Returns the first fault of the lowest-numbered faulty filter, protected or grouped, with the filter's number; `None` if no protected or
+/// grouped filter is faulty. `first_fault` calls it.
 fn least_fault<A: Allocator + Copy>(
     plan: &Plan<A>,
     reaches: &[FilterReach],

@@ -127,7 +127,8 @@ read_port_lists change index members = do
   new ← optional_list section.Port index next
   Ok (port_lists old change new)
 
--- Reads a port. `is_port` is true for the numbers of the earlier ports: such a number is the fault Duplicate.
+-- Reads a port. `is_port` is true for the numbers of the earlier ports: an earlier port's number is the fault
+-- Duplicate.
 unfoldable pub read_port_by_lookup : {A : Type 0} → Option ℕ → (ℕ → Bool) → ℕ → Members → Result (PortPlan A) PlanFault
 read_port_by_lookup change is_port index members =
     let at : Field → KeyLocation = λ key. record { section = section.Port; index = index; field = key } in do

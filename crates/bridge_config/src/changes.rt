@@ -48,7 +48,8 @@ fn first_item(items: &[Value]) -> Option<&Value>
     }
 }
 
-/// Reads the time of the schedule change from an item. `None` if there is no item, or it isn't a table. `read_change` calls it.
+/// Reads the time of the schedule change from an item. `None` if there is no item, or it isn't a table. If the change is refused, returns
+/// its fault. `read_change` calls it.
 fn item_change(value: Option<&Value>) -> Result<Option<u64>, PlanFault>
     ensures reads { MatchesReading result (doc.item_change (option_map (λ v. view v.now) value.entry)) }
     ensures bounded { IfOk result rules.IsChangeInTime }
@@ -63,7 +64,8 @@ fn item_change(value: Option<&Value>) -> Result<Option<u64>, PlanFault>
     }
 }
 
-/// Reads the time in ns of the plan's schedule change; `None` if the plan has no change. Allocates no memory. `read_plan` calls it.
+/// Reads the time in ns of the plan's schedule change; `None` if the plan has no change. Allocates no memory. If the change is refused,
+/// returns its fault. `read_plan` calls it.
 #[tactic(auto, unfolding(crate::specs::Document::read_change))]
 pub(crate) fn read_change(items: &[Value]) -> Result<Option<u64>, PlanFault>
     ensures reads { MatchesReading result (doc.read_change (items_view items.now)) }

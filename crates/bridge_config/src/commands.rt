@@ -87,7 +87,9 @@ fn has_command_keys(table: &Table) -> bool
     has_allowed_keys(table, &COMMAND_KEYS, false)
 }
 
-/// Reads the command in a table. The command may not be earlier than the last of `commands`, and must name an instance of the plan.
+/// Reads the command in a table. The command may not be earlier than the last of `commands`, and must name an instance of the plan. If the
+/// command is refused, returns its fault.
+///
 /// `CommandSection::read` calls it.
 fn read_command<B: Allocator + Copy>(
     plan: &Plan<B>,

@@ -28,6 +28,8 @@ fn has_filter_keys(table: &Table) -> bool
 
 /// Reads a filter and its number, which must not be in `filters`. Its gate must be in `gates`, its optional meter in `meters`.
 /// `read_filter` passes the plan's instances.
+///
+/// If the filter is refused, returns its fault.
 fn read_filter_by_lookup<G: NumberLookup + Copy, M: NumberLookup + Copy, F: NumberLookup + Copy>(
     gates: G,
     meters: M,
@@ -87,7 +89,7 @@ fn read_filter_by_lookup<G: NumberLookup + Copy, M: NumberLookup + Copy, F: Numb
 /// Reads a filter and its number. `gates` and `meters` are all stream gates and meters of the plan. `filters` are the earlier filters; none
 /// may have this number.
 ///
-/// `FilterSection::read` calls it.
+/// If the filter is refused, returns its fault. `FilterSection::read` calls it.
 fn read_filter<A: Allocator + Copy>(
     gates: &[(u32, GatePlan<A>)],
     meters: &[(u32, MeterPlan)],

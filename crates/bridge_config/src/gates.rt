@@ -56,8 +56,8 @@ impl ListEntry for GateEntryReader {
     }
 }
 
-/// Whether a `[[gate]]` table has only allowed keys. Some keys need a schedule change: `change` is its time, or `None`. `has_gate_keys`
-/// calls it.
+/// Whether a `[[gate]]` table has only allowed keys. Some keys need a schedule change: `change` is its time in ns. `change` is `None` if
+/// the plan has no schedule change. `has_gate_keys` calls it.
 fn has_only_gate_keys(change: Option<u64>, table: &Table) -> bool
     ensures { result ≡ has_known_keys (sections.gate_keys change (table_view table.now)) (table_view table.now) }
 {
@@ -73,8 +73,10 @@ fn has_only_gate_entry_keys(key: Field, table: &Table) -> bool
     has_allowed_entry_keys(get_value(table, key.key()), &GATE_ENTRY_KEYS)
 }
 
-/// Whether a `[[gate]]` table and the entries of its lists have only allowed keys; otherwise its fault is `UnknownKey`. `read_gate` calls
-/// it.
+/// Whether a `[[gate]]` table and the entries of its lists have only allowed keys. Otherwise the table's fault is `UnknownKey`. `change` is
+/// the time of the schedule change in ns, if the plan has one.
+///
+/// `read_gate` calls it.
 fn has_gate_keys(change: Option<u64>, table: &Table) -> bool
     ensures { result ≡ sections.has_gate_keys change (table_view table.now) }
 {
@@ -83,7 +85,9 @@ fn has_gate_keys(change: Option<u64>, table: &Table) -> bool
         && has_only_gate_entry_keys(Field::NextEntries, table)
 }
 
-/// Reads the parts of one of a stream gate's two lists. `keys` are the keys of the first list, or of the list after the schedule change.
+/// Reads the parts of one of a stream gate's two lists. `keys` are the keys of the first list, or of the list after the schedule change. If
+/// a list is refused, returns its fault.
+///
 /// `read_gate_lists` calls it for each list.
 fn read_gate_parts<A: Allocator + Copy>(
     alloc: A,
@@ -141,8 +145,8 @@ fn gate_schedule<A: Allocator + Copy>(
     }
 }
 
-/// Reads the lists of a stream gate; `None` if the gate has no list. `change` is the time of the schedule change in ns. `take_gate_lists`
-/// calls it.
+/// Reads the lists of a stream gate; `None` if the gate has no list. `change` is the time of the schedule change in ns. If a list is
+/// refused, returns its fault. `take_gate_lists` calls it.
 fn read_gate_lists<A: Allocator + Copy>(
     alloc: A,
     change: Option<u64>,
@@ -161,8 +165,10 @@ fn read_gate_lists<A: Allocator + Copy>(
     Ok(gate_schedule(old, change, new))
 }
 
-/// Reads the lists of a stream gate. Returns `None` without a list, and after an earlier fault. If reading fails, stores the fault and
-/// returns `None`. `read_gate` calls it.
+/// Reads the lists of a stream gate. `change` is the time of the schedule change in ns, if the plan has one. Returns `None` if the gate has
+/// no list, and after an earlier fault.
+///
+/// If reading fails, stores the fault and returns `None`. `read_gate` calls it.
 fn take_gate_lists<A: Allocator + Copy>(
     first: &mut FirstFault,
     alloc: A,
@@ -225,7 +231,9 @@ fn schedule_or_fixed<A: Allocator + Copy>(
     }
 }
 
-/// Reads a stream gate and its number, which none of the gates before it may have. `change` is the time of the schedule change in ns.
+/// Reads a stream gate and its number, which none of the gates before it may have. `change` is the time of the schedule change in ns. If
+/// the gate is refused, returns its fault.
+///
 /// `GateSection::read` calls it.
 fn read_gate<A: Allocator + Copy>(
     alloc: A,

@@ -26,7 +26,9 @@ pub(crate) struct ListParts<X, A: Allocator + Copy> {
     pub entries: Option<Vec<X, A>>,
 }
 
-/// Reads the parts of a list from three keys of a table. `entry` reads each entry, of a port's list or of a stream gate's list.
+/// Reads the parts of a list from three keys of a table. `entry` reads each entry, of a port's list or of a stream gate's list. If a part
+/// is refused, returns its fault.
+///
 /// `read_gate_parts` and `read_port_parts` call it.
 #[tactic(auto, unfolding(crate::specs::Sections::read_list_parts))]
 pub(crate) fn read_list_parts<A: Allocator + Copy, E: ListEntry>(

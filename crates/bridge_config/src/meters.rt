@@ -44,7 +44,8 @@ fn has_meter_keys(table: &Table) -> bool
     has_allowed_keys(table, &METER_KEYS, false)
 }
 
-/// Reads a meter and its number, which none of the meters before it may have. `MeterSection::read` calls it.
+/// Reads a meter and its number, which none of the meters before it may have. If the meter is refused, returns its fault.
+/// `MeterSection::read` calls it.
 fn read_meter(
     meters: &[(u32, MeterPlan)],
     index: u32,

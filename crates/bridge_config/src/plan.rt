@@ -72,7 +72,7 @@ impl<A: Allocator + Copy> Model for Plan<A> {
 }
 
 impl<A: Allocator + Copy> Plan<A> {
-    /// Returns the ports, in file order. Functions of `app_commands`, `bridge_check`, `bridge_relay` and other crates call it.
+    /// Returns the ports, in file order. `note_captures` of `app_commands`, `check` of `bridge_check` and many more call it.
     pub fn ports(&self) -> &[PortPlan<A>]
         ensures ports { result.now ≡ self.now.ports }
         ensures rules { rules.IsPlan self.now }
@@ -88,8 +88,8 @@ impl<A: Allocator + Copy> Plan<A> {
         find_port(&self.ports, number)
     }
 
-    /// Returns the numbers of the ports in rising order. Functions of `app_commands`, `app_networks`, `bridge_core` and other crates call
-    /// it.
+    /// Returns the numbers of the ports in rising order. `send_named` of `app_commands`, `read_bridge_input` of `app_networks` and 5 more
+    /// call it.
     pub fn port_numbers<B: Allocator + Copy>(&self, alloc: B) -> Result<Vec<u8, B>, NoMemory>
         ensures { IfOk result (λ v. rules.IsSortedCopy (map (λ p. p.number) self.now.ports) v.items) }
     {
@@ -120,8 +120,8 @@ impl<A: Allocator + Copy> Plan<A> {
         &self.streams
     }
 
-    /// Returns the stream gates with their numbers, in file order. `CommandTargets::has` and functions of `bridge_bounds`, `bridge_check`,
-    /// `bridge_groups` and other crates call it.
+    /// Returns the stream gates with their numbers, in file order. `CommandTargets::has`, `is_coarse` of `bridge_bounds` and many more call
+    /// it.
     pub fn gates(&self) -> &[(u32, GatePlan<A>)]
         ensures gates { result.now ≡ self.now.gates }
         ensures rules { rules.IsPlan self.now }
@@ -129,8 +129,8 @@ impl<A: Allocator + Copy> Plan<A> {
         &self.gates
     }
 
-    /// Returns the flow meters with their numbers, in file order. `CommandTargets::has` and functions of `bridge_groups`, `bridge_relay`
-    /// and `show_lint` call it.
+    /// Returns the flow meters with their numbers, in file order. `CommandTargets::has`, `committed_tokens` of `bridge_groups` and 5 more
+    /// call it.
     pub fn meters(&self) -> &[(u32, MeterPlan)]
         ensures meters { result.now ≡ self.now.meters }
         ensures rules { rules.IsPlan self.now }
@@ -138,8 +138,8 @@ impl<A: Allocator + Copy> Plan<A> {
         &self.meters
     }
 
-    /// Returns the stream filters with their numbers, in file order. `CommandTargets::has` and functions of `app_commands`, `app_failure`,
-    /// `bridge_bounds` and other crates call it.
+    /// Returns the stream filters with their numbers, in file order. `CommandTargets::has`, `unprotected_warning` of `app_commands` and
+    /// many more call it.
     pub fn filters(&self) -> &[(u32, FilterPlan)]
         ensures filters { result.now ≡ self.now.filters }
         ensures rules { rules.IsPlan self.now }
@@ -247,8 +247,10 @@ impl<A: Allocator + Copy> Model for Policing<A> {
     }) };
 }
 
-/// Reads the stream gates and meters, then the filters, which name them. `change` is the time of the schedule change in ns, or `None`.
-/// `read_plan` calls it.
+/// Reads the stream gates and meters, then the filters, which name them. `change` is the time of the schedule change in ns. `change` is
+/// `None` if the plan has no schedule change.
+///
+/// Returns the first fault of a section, or `NoMemory`. `read_plan` calls it.
 #[tactic(auto, unfolding(crate::specs::Document::read_policing))]
 fn read_policing<A: Allocator + Copy>(
     alloc: A,
@@ -310,7 +312,8 @@ pub(crate) fn read_document(heap: Global, text: &[u8]) -> Result<Table, PlanFaul
 /// Order of faults: `TooLong`, `Syntax`, an unknown section, then `NotAList`, `TooMany` and `NoPorts` of the sections, then each
 /// instance key by key.
 ///
-/// Sections follow the order of `PLAN_SECTIONS`. Functions of `app_commands`, `app_failure` and `app_networks` call it.
+/// Sections follow the order of `PLAN_SECTIONS`. `explain_check_fault` of `app_commands`, `accepted_plan` of `app_failure` and 2 more call
+/// it.
 pub fn plan_of<A: Allocator + Copy>(
     alloc: A,
     heap: Global,

@@ -70,8 +70,8 @@ impl ListEntry for PortEntryReader {
     }
 }
 
-/// Whether a `[[port]]` table has only allowed keys. Some keys need a schedule change: `change` is its time, or `None`. `has_port_keys`
-/// calls it.
+/// Whether a `[[port]]` table has only allowed keys. Some keys need a schedule change: `change` is its time in ns. `change` is `None` if
+/// the plan has no schedule change. `has_port_keys` calls it.
 fn has_only_port_keys(change: Option<u64>, table: &Table) -> bool
     ensures { result ≡ has_known_keys (sections.port_keys change (table_view table.now)) (table_view table.now) }
 {
@@ -87,7 +87,9 @@ fn has_only_port_entry_keys(key: Field, table: &Table) -> bool
     has_allowed_entry_keys(get_value(table, key.key()), &PORT_ENTRY_KEYS)
 }
 
-/// Whether a `[[port]]` table and the entries of its lists have only allowed keys; otherwise its fault is `UnknownKey`.
+/// Whether a `[[port]]` table and the entries of its lists have only allowed keys. Otherwise the table's fault is `UnknownKey`. `change` is
+/// the time of the schedule change in ns, if the plan has one.
+///
 /// `read_port_by_lookup` calls it.
 fn has_port_keys(change: Option<u64>, table: &Table) -> bool
     ensures { result ≡ sections.has_port_keys change (table_view table.now) }
@@ -97,7 +99,8 @@ fn has_port_keys(change: Option<u64>, table: &Table) -> bool
         && has_only_port_entry_keys(Field::NextGates, table)
 }
 
-/// Whether a port has number `number`. Streams may name only such a port, and later ports need another number. `PortNumbers::has` calls it.
+/// Whether a port has number `number`. Streams may name only a port of the plan, and later ports need another number. `PortNumbers::has`
+/// calls it.
 pub(crate) fn has_port<A: Allocator + Copy>(ports: &[PortPlan<A>], number: u64) -> bool
     ensures { result ≡ rules.has_port ports.now number }
 {
@@ -119,7 +122,9 @@ impl<'a, A: Allocator + Copy> NumberLookup for PortNumbers<'a, A> {
     }
 }
 
-/// Reads the parts of one of a port's two lists. `keys` are the keys of the first list, or of the list after the schedule change.
+/// Reads the parts of one of a port's two lists. `keys` are the keys of the first list, or of the list after the schedule change. If a list
+/// is refused, returns its fault.
+///
 /// `read_port_lists` calls it for each list.
 fn read_port_parts<A: Allocator + Copy>(
     alloc: A,
@@ -175,7 +180,9 @@ fn port_lists<A: Allocator + Copy>(
     }
 }
 
-/// Reads the gate control lists of a port; `None` if the port has no list. `change` is the time of the schedule change in ns.
+/// Reads the gate control lists of a port; `None` if the port has no list. `change` is the time of the schedule change in ns. If a list is
+/// refused, returns its fault.
+///
 /// `take_port_lists` calls it.
 fn read_port_lists<A: Allocator + Copy>(
     alloc: A,
@@ -194,8 +201,10 @@ fn read_port_lists<A: Allocator + Copy>(
     Ok(port_lists(old, change, new))
 }
 
-/// Reads the gate control lists of a port. Returns `None` without a list, and after an earlier fault. If reading fails, stores the fault
-/// and returns `None`. `read_port_by_lookup` calls it.
+/// Reads the gate control lists of a port. `change` is the time of the schedule change in ns, if the plan has one.
+///
+/// Returns `None` if the port has no list, and after an earlier fault. If reading fails, stores the fault and returns `None`.
+/// `read_port_by_lookup` calls it.
 fn take_port_lists<A: Allocator + Copy>(
     first: &mut FirstFault,
     alloc: A,
@@ -221,7 +230,7 @@ fn take_port_lists<A: Allocator + Copy>(
 }
 
 /// Reads a port, whose number must not be in `ports`. `read_port` passes the earlier ports. `change` is the time of the schedule change in
-/// ns.
+/// ns. If the port is refused, returns its fault.
 fn read_port_by_lookup<A: Allocator + Copy, P: NumberLookup + Copy>(
     alloc: A,
     change: Option<u64>,
@@ -265,8 +274,8 @@ fn read_port_by_lookup<A: Allocator + Copy, P: NumberLookup + Copy>(
     })
 }
 
-/// Reads a port, whose number none of the ports before it may have. `change` is the time of the schedule change in ns. `PortSection::read`
-/// calls it.
+/// Reads a port, whose number none of the ports before it may have. `change` is the time of the schedule change in ns. If the port is
+/// refused, returns its fault. `PortSection::read` calls it.
 fn read_port<A: Allocator + Copy>(
     alloc: A,
     change: Option<u64>,

@@ -74,8 +74,8 @@ fn has_static_keys(table: &Table) -> bool
     has_allowed_keys(table, &STATIC_KEYS, false)
 }
 
-/// Reads a static entry. No entry before it may have its VLAN and address. `all` is the set of the plan's ports. `StaticSection::read`
-/// calls it.
+/// Reads a static entry. No entry before it may have its VLAN and address. `all` is the set of the plan's ports. If the entry is refused,
+/// returns its fault. `StaticSection::read` calls it.
 fn read_static(
     all: u16,
     vlans: &[Vlan],

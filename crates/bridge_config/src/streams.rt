@@ -66,7 +66,8 @@ fn has_stream_keys(table: &Table) -> bool
     has_allowed_keys(table, &STREAM_KEYS, false)
 }
 
-/// Reads a stream identification. Its `port` must be a number that `ports` contains; `read_stream` passes the plan's ports.
+/// Reads a stream identification. Its `port` must be a number that `ports` contains; `read_stream` passes the plan's ports. If the
+/// identification is refused, returns its fault.
 fn read_stream_by_lookup<P: NumberLookup + Copy>(
     ports: P,
     index: u32,
@@ -110,8 +111,8 @@ fn read_stream_by_lookup<P: NumberLookup + Copy>(
     })
 }
 
-/// Reads a stream identification, whose port must be one of `ports`. The earlier identifications have no influence on it.
-/// `StreamSection::read` calls it.
+/// Reads a stream identification, whose port must be one of `ports`. The earlier identifications have no influence on it. If the
+/// identification is refused, returns its fault. `StreamSection::read` calls it.
 fn read_stream<A: Allocator + Copy>(
     ports: &[PortPlan<A>],
     earlier: &[StreamEntry],

@@ -14,7 +14,7 @@ use bridge_schema::{
 use std::alloc::Allocator;
 use toml::Table;
 
-/// Whether a VLAN has the identifier `vid`. Static entries may name only such a VLAN, and later VLANs need another identifier.
+/// Whether a VLAN has the identifier `vid`. Static entries may name only a VLAN of the plan, and later VLANs need another identifier.
 /// `VlanNumbers::has` and `read_vlan` call it.
 pub(crate) fn has_vlan(vlans: &[Vlan], vid: u64) -> bool
     ensures { result ≡ rules.has_vlan vlans.now vid }
@@ -47,7 +47,7 @@ fn has_vlan_keys(table: &Table) -> bool
 /// Reads a VLAN. None of `vlans`, the earlier VLANs, may have its identifier. `all` is the set of the plan's ports, which members must
 /// belong to.
 ///
-/// `VlanSection::read` calls it.
+/// If the VLAN is refused, returns its fault. `VlanSection::read` calls it.
 fn read_vlan(all: u16, vlans: &[Vlan], index: u32, table: &Table) -> Result<Vlan, PlanFault>
     ensures reads { MatchesReading result (sections.read_vlan all vlans.now index (table_view table.now)) }
     ensures own { IfOk result (λ v. rules.has_vlan vlans.now v.vid ≡ false) }

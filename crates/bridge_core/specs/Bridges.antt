@@ -31,7 +31,7 @@ bridge_earliest b = b.relay.earliest
 abbrev pub bridge_queued : {G A : Type 0} → BridgeState G A → ℕ
 bridge_queued b = count_waiting_copies b.relay
 
--- The time in ns of the next start of port `q`; `None` if no start is due.
+-- The time in ns at which port `q` starts its next transmission; `None` if no transmission is due.
 abbrev pub next_start : {G A : Type 0} → (G → ℕ → Option ℕ) → BridgeState G A → ℕ → Option ℕ
 next_start held b q = held b.relay.ports.agenda q
 

@@ -40,7 +40,8 @@ HasWritten old new frames = Appends old new (written_text frames) × All FitsRec
 abbrev pub AreWritten : {W : Type 0} → (W → Option (List ℕ)) → List ℕ → List W → List W → (ℕ → List CapturedFrame) → Type 0
 AreWritten {W} contents ports olds news left = (i q : ℕ) (old new : W) → slice_get ports i ≡ Some q → slice_get olds i ≡ Some old → slice_get news i ≡ Some new → HasWritten (contents old) (contents new) (left q)
 
--- Holds if every sink has its whole capture, except the sink of one existing port, which has a prefix of its capture.
+-- Holds if every sink has its whole capture, except the sink of one existing port. That sink has a prefix of the port's
+-- capture.
 pub record AreWrittenExceptOne {W : Type 0} (contents : W → Option (List ℕ)) (port : ℕ) (ports : List ℕ) (olds news : List W) (left : ℕ → List CapturedFrame) : Type 0 where
   pub place : ℕ
   pub there : slice_get ports place ≡ Some port
@@ -68,8 +69,8 @@ WritesFrame contents port ports olds news left (Ok u) = AreWritten contents port
 WritesFrame contents port ports olds news left (Err (run.Write q)) = (q ≡ port) × AreWrittenExceptOne contents port ports olds news left
 WritesFrame contents port ports olds news left (Err fault) = ⊥
 
--- Holds if port `port` makes a start at time `moment` in a run of the events `es`. All earlier starts, by time and
--- port, are made. With this start, the departures are `left`.
+-- Holds if port `port` starts a transmission at time `moment` in a run of the events `es`. All earlier transmissions,
+-- by time and port, have started. With this transmission, the departures are `left`.
 pub record MakesStart {A : Type 0} (p : Plan A) (es : List Event) (moment port : ℕ) (left : ℕ → List CapturedFrame) : Type 0 where
   pub before : ℕ → List CapturedFrame
   pub class : ℕ
@@ -78,7 +79,8 @@ pub record MakesStart {A : Type 0} (p : Plan A) (es : List Event) (moment port :
   pub with_it : (q : ℕ) → left q ≡ (if nat_eq q port then before q ++ frame ∷ [] else before q)
   pub reaches : ReachesStart p es moment port left
 
--- Holds if a port's sink failed at a start at or after time `from` and before `until`. All other departures are written.
+-- Holds if a port's sink failed for a transmission that starts at or after time `from` and before `until`. All other
+-- departures are written.
 pub record StopsAtStart {A W : Type 0} (contents : W → Option (List ℕ)) (p : Plan A) (es : List Event) (from : ℕ) (until : Option ℕ) (port : ℕ) (ports : List ℕ) (olds news : List W) : Type 0 where
   pub left : ℕ → List CapturedFrame
   pub moment : ℕ
@@ -87,7 +89,8 @@ pub record StopsAtStart {A W : Type 0} (contents : W → Option (List ℕ)) (p :
   pub makes : MakesStart p es moment port left
   pub written : AreWrittenExceptOne contents port ports olds news left
 
--- Holds if the departures before `until` are written, or a sink failed at a start at or after `from`.
+-- Holds if the departures before `until` are written, or a sink failed for a transmission that starts at or after
+-- `from`.
 abbrev pub SendsDueFrames : {G A W : Type 0} → (W → Option (List ℕ)) → Plan A → List Event → ℕ → Option ℕ → RelayState G A → List ℕ → List W → List W → Result (Unit {0}) RunFault → Type 0
 SendsDueFrames contents p es from until b ports olds news (Ok u) = (left : ℕ → List CapturedFrame) × RelayStandsFor p b es left × AreWritten contents ports olds news left
 SendsDueFrames contents p es from until b ports olds news (Err (run.Write port)) = StopsAtStart contents p es from until port ports olds news

@@ -65,8 +65,8 @@ pub record StopsReading {A W : Type 0} (p : Plan A) (texts : ℕ → List ℕ) (
   pub reaches : ReachesTime p (input_events inputs) (newest_time inputs) left
   pub written : AreWritten contents ports olds news left
 
--- Holds if the run stopped because the sink of port `port` failed at a start. This start isn't before the newest input,
--- and it precedes the next inputs. All other departures are written.
+-- Holds if the run stopped because the sink of port `port` failed for a transmission. The transmission starts no
+-- earlier than the newest input, and before the next inputs. All other departures are written.
 pub record StopsWriting {A W : Type 0} (p : Plan A) (texts : ℕ → List ℕ) (commanded : List Input) (next : Option Input) (contents : W → Option (List ℕ)) (ports : List ℕ) (olds news : List W) (port : ℕ) : Type 0 where
   pub frames : ℕ → List CapturedFrame
   pub inputs : List Input
@@ -118,7 +118,7 @@ pub record CanTakeFrames {G A : Type 0} (b : RelayState G A) (lanes : List (Capt
 abbrev pub head_time : {A : Type 0} → CaptureReader A → Option ℕ
 head_time lane = option_map (λ p. p.time) lane.ahead
 
--- The time in ns of the next frame of reader `i`, counted from 1; `None` without such a frame.
+-- The time in ns of the next frame of reader `i`, counted from 1; `None` if the reader is missing or has no next frame.
 abbrev pub nth_head_time : {A : Type 0} → List (CaptureReader A) → ℕ → Option ℕ
 nth_head_time lanes zero = None
 nth_head_time lanes (suc i) = option_and_then head_time (slice_get lanes i)

@@ -99,8 +99,8 @@ pub record HasProtectedView {A : Type 0} (p : Plan A) (n : ℕ) (f : FilterPlan)
   pub protected : f.protected ≡ true
   pub told : lookup (nat_eq n) o.filters.items ≡ Some v
 
--- Holds if each protected filter's record in `o` results from its own frames and commands only, as if each queue had
--- its port to itself. The statement covers each run (`IsWholeRun`) with the result `o`.
+-- Holds if each protected filter's record in `o` results from the filter's own frames and commands only, as if queues
+-- shared no port. The statement covers each run (`IsWholeRun`) with the result `o`.
 abbrev pub IsolatesFilters : {A W : Type 0} → Plan A → List ℕ → List Command → (ℕ → List ℕ) → (W → Option (List ℕ)) → List W → List W → Outcome A → Type 0
 IsolatesFilters {A} p ports commands texts contents olds news o =
     (ran : IsWholeRun p ports commands texts contents olds news o) (n : ℕ) (f : FilterPlan) (v : View A)
@@ -171,8 +171,8 @@ MembersChangeNoVerdict {A} {W} p ports commands texts contents olds news o =
     → HaveSameOwnInputs p n f (input_streams (commands_of commands) ran.frames) (input_streams (commands_of other_commands) also.frames)
     → HaveSamePoliceRecords u v
 
--- Holds if the run isolates each group: its own frames and commands decide its filters' records. Each filter's own frames and commands
--- decide its verdicts.
+-- Holds if the run isolates each group: the group's own frames and commands decide the records of its filters. Each
+-- filter's own frames and commands decide the filter's verdicts.
 pub record IsolatesGroups {A W : Type 0} (p : Plan A) (ports : List ℕ) (commands : List Command) (texts : ℕ → List ℕ) (contents : W → Option (List ℕ)) (olds news : List W) (o : Outcome A) : Type 0 where
   pub members : IsolatesMembers p ports commands texts contents olds news o
   pub outsiders : OutsidersChangeNothing p ports commands texts contents olds news o

@@ -91,8 +91,8 @@ impl<'a, G: Agenda + Drop, A: Allocator + Copy> Bridge<'a, G, A> {
         })
     }
 
-    /// Handles a frame that arrives on port `port`. The frame must arrive after the last start, not before the last event, and not after
-    /// the next start.
+    /// Handles a frame that arrives on port `port`. The frame must arrive after the last transmission start, not before the last event, and
+    /// not after the next transmission start.
     ///
     /// If memory runs out, returns the frame, and leaves the bridge unchanged. Callers hand in each frame by this method.
     pub fn arrive(&mut self, port: u8, packet: Packet<A>) -> Result<(), (Packet<A>, NoMemory)>
@@ -122,8 +122,8 @@ impl<'a, G: Agenda + Drop, A: Allocator + Copy> Bridge<'a, G, A> {
         }
     }
 
-    /// Carries out a command, which must be after the last frame and the last start, and not before the last command. Allocates no memory.
-    /// Callers hand in each command by this method.
+    /// Carries out a command, which must be after the last frame and the last transmission start, and not before the last command.
+    /// Allocates no memory. Callers hand in each command by this method.
     pub fn command(&mut self, command: &Command)
         requires time { self.old.command ≤ command.now.at }
         requires instance { IsTrue (has_instance (bridge_plan self.old) command.now.clear command.now.number) }
@@ -139,10 +139,11 @@ impl<'a, G: Agenda + Drop, A: Allocator + Copy> Bridge<'a, G, A> {
         self.command = command.at;
     }
 
-    /// Returns the port and time in ns of the next start, at equal times of the lowest port; `None` if no copy is queued. No port has
-    /// missed an earlier start (`next`). Allocates no memory.
+    /// Returns the port that starts a transmission next, and the start time in ns; `None` if no copy is queued. At equal times, the lowest
+    /// port is next.
     ///
-    /// Callers start this transmission before they hand in a later event.
+    /// No port has missed an earlier start (`next`). Allocates no memory. Callers start this transmission before they hand in a later
+    /// event.
     pub fn due(&self) -> Option<(u8, u64)>
         ensures next { (p : config.Plan A) (es : List Event) (left : ℕ → List CapturedFrame)
             → BridgeStandsFor p self.now es left
@@ -153,10 +154,10 @@ impl<'a, G: Agenda + Drop, A: Allocator + Copy> Bridge<'a, G, A> {
         self.relay.due()
     }
 
-    /// Makes the next start and returns the frame: the head of the highest class whose head fits (`sends`). All starts up to this one are
-    /// then made, by time and port (`reaches`). Allocates no memory.
+    /// Starts the next transmission and returns the frame: the head of the highest class whose head fits (`sends`). All transmissions up to
+    /// this one have then started, by time and port (`reaches`). Allocates no memory.
     ///
-    /// Callers repeat it while a start is due.
+    /// Callers repeat it while a transmission is due.
     pub fn advance(&mut self) -> Sent<A>
         requires { (q k : ℕ) × (next_start G.held self.old q ≡ Some k) }
         ensures sends { (p : config.Plan A) (es : List Event) (left : ℕ → List CapturedFrame)
@@ -191,8 +192,8 @@ impl<'a, G: Agenda + Drop, A: Allocator + Copy> Bridge<'a, G, A> {
         self.relay.arrived()
     }
 
-    /// Returns the number of starts of port `port` so far: the number of frames that it has sent. Callers compare it with the number of
-    /// frames that `advance` returned.
+    /// Returns the number of transmissions that port `port` has started. Callers compare it with the number of frames that `advance`
+    /// returned.
     pub fn started(&self, port: u8) -> u64
         requires { (out : PortPlan A) × (find_port (bridge_plan self.now).ports port ≡ Some out) }
         ensures { (p : config.Plan A) (es : List Event) (left : ℕ → List CapturedFrame)
@@ -203,23 +204,27 @@ impl<'a, G: Agenda + Drop, A: Allocator + Copy> Bridge<'a, G, A> {
     }
 
     /// Returns the earliest time in ns at which the next frame may arrive. It is the time of the last event, but at least 1 ns after the
-    /// last start. Callers of `arrive` need it.
+    /// last transmission start.
+    ///
+    /// Callers of `arrive` need it.
     pub fn earliest(&self) -> u64
         ensures { result ≡ bridge_earliest self.now }
     {
         self.relay.earliest()
     }
 
-    /// Returns the earliest time in ns of the next command: at least 1 ns after the last frame and the last start, and not before the last
-    /// command. Callers of `command` need it.
+    /// Returns the earliest time in ns of the next command: at least 1 ns after the last frame and the last transmission start. It is never
+    /// before the last command. Callers of `command` need it.
     pub fn earliest_command(&self) -> u64
         ensures { result ≡ self.now.command }
     {
         self.command
     }
 
-    /// Does nothing; its contract states that the events form a run up to any time that isn't after the next start (`reaches`). Each port's
-    /// due start is its schedule's next start (`next`).
+    /// Does nothing; its contract states that the events form a run up to any time that isn't after the next transmission start
+    /// (`reaches`).
+    ///
+    /// Each port's due start is the next start of the port's schedule (`next`).
     pub fn assert_reached(&self)
         ensures reaches { (p : config.Plan A) (es : List Event) (left : ℕ → List CapturedFrame) (h : ℕ)
             → BridgeStandsFor p self.now es left → bridge_earliest self.now ≤ h
@@ -235,10 +240,10 @@ impl<'a, G: Agenda + Drop, A: Allocator + Copy> Bridge<'a, G, A> {
         self.relay.assert_reached();
     }
 
-    /// Ends a run in which no start is due. Returns the counts of ports and the records of filters. A protected filter's record depends on
-    /// its own events only. Allocates no memory.
+    /// Ends a run in which no transmission is due. Returns the counts of ports and the records of filters. A protected filter's record
+    /// depends on its own events only. Allocates no memory.
     ///
-    /// Callers call it after the last start.
+    /// Callers call it after the last transmission has started.
     pub fn finish(self) -> Outcome<A>
         requires idle { (q : ℕ) → next_start G.held self q ≡ None }
         ensures ends { (p : config.Plan A) (es : List Event) (left : ℕ → List CapturedFrame)

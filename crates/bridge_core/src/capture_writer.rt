@@ -110,8 +110,10 @@ pub fn write_frame<W: ByteSink, A: Allocator + Copy>(
     }
 }
 
-/// Makes all starts before time `until` in ns, or all starts if it is `None`, and writes their frames. The frames' buffers return to the
-/// pool `spares`. `run`, `process_frame` and `process_command` call it.
+/// Starts all transmissions that are due before time `until` in ns, or all if `until` is `None`, and writes their frames. The frames'
+/// buffers return to the pool `spares`.
+///
+/// Stops with `Write` at the first failed write. `run`, `process_frame` and `process_command` call it.
 #[inline(always)]
 pub fn send_due_frames<W: ByteSink, G: Agenda + Drop, A: Allocator + Copy>(
     until: Option<u64>,

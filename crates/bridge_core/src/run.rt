@@ -82,7 +82,9 @@ fn take_frame<A: Allocator + Copy>(lanes: &mut [CaptureReader<A>], place: usize)
 }
 
 /// Reads the next record of the capture with index `place`, after `take_frame` has removed a frame. The record's octets use the buffer
-/// `spare`. `process_frame` calls it.
+/// `spare`.
+///
+/// Fails if the record is refused, the source fails or memory runs out. `process_frame` calls it.
 fn read_next_ahead<R: ByteSource, A: Allocator + Copy>(
     spare: Vec<u8, A>,
     place: usize,
@@ -102,8 +104,11 @@ fn read_next_ahead<R: ByteSource, A: Allocator + Copy>(
     lanes[place].read_ahead(spare, &mut sources[place])
 }
 
-/// Handles the earliest frame, from the reader with index `place`. Makes and writes all earlier starts, gives the frame to the relay, and
-/// reads the capture's next record. `process_earlier_frames` calls it.
+/// Handles the earliest frame, which the reader with index `place` holds. First starts all transmissions that are due before its arrival,
+/// and writes their frames to `sinks`.
+///
+/// Then gives the frame to the relay, and reads the capture's next record. Fails if a sink or the next record fails, or if memory runs out.
+/// `process_earlier_frames` calls it.
 fn process_frame<R: ByteSource, W: ByteSink, G: Agenda + Drop, A: Allocator + Copy>(
     place: usize,
     relay: &mut Relay<'_, G, A>,
@@ -174,8 +179,8 @@ fn is_earlier(time: u64, until: Option<u64>) -> bool
     }
 }
 
-/// Returns the index of the reader with the earliest frame, if this frame is before `until`; otherwise `None`. Reads only the agenda, not
-/// the frames. `process_earlier_frames` calls it.
+/// Returns the index of the reader with the earliest frame, if this frame arrives before `until` ns; otherwise `None`. Reads only the
+/// agenda, not the frames. `process_earlier_frames` calls it.
 #[inline(always)]
 fn next_reader<H: Agenda, A: Allocator + Copy>(
     heads: &H,
@@ -240,7 +245,9 @@ fn process_earlier_frames<R: ByteSource, W: ByteSink, G: Agenda + Drop, A: Alloc
 }
 
 /// Handles all frames before the command's time, writes due frames to `sinks`, and clears the command's flag. Frames that arrive at the
-/// command's time are handled later. `run` calls it.
+/// command's time are handled later.
+///
+/// Fails if a capture or a sink fails, or if memory runs out. `run` calls it.
 fn process_command<R: ByteSource, W: ByteSink, G: Agenda + Drop, A: Allocator + Copy>(
     command: Command,
     relay: &mut Relay<'_, G, A>,
@@ -289,7 +296,8 @@ fn process_command<R: ByteSource, W: ByteSink, G: Agenda + Drop, A: Allocator + 
     Ok(())
 }
 
-/// Handles all frames and commands in their order, and makes and writes all starts. Stops at the first fault. `run_prepared` calls it.
+/// Handles all frames and commands in their order. Starts all transmissions, and writes their frames. Stops at the first fault.
+/// `run_prepared` calls it.
 pub fn run<R: ByteSource, W: ByteSink, G: Agenda + Drop, A: Allocator + Copy>(
     commands: &[Command],
     relay: &mut Relay<'_, G, A>,

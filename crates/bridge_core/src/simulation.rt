@@ -71,7 +71,9 @@ fn make_buffer_pool<A: Allocator + Copy>(alloc: A) -> Result<BufferPool<A>, NoMe
     }
 }
 
-/// Completes a prepared run: writes the captures' headers, handles all frames and commands in order, and writes all departures.
+/// Completes a prepared run: writes the captures' headers, handles all frames and commands in order, and writes all departures. Fails if a
+/// capture is refused, a source or sink fails, or memory runs out.
+///
 /// `simulate_with_agenda` calls it last.
 fn run_prepared<R: ByteSource, W: ByteSink, G: Agenda + Drop, A: Allocator + Copy>(
     commands: &[Command],
@@ -148,7 +150,8 @@ fn run_prepared<R: ByteSource, W: ByteSink, G: Agenda + Drop, A: Allocator + Cop
 /// Writes a capture for each port, in which the time of a frame is its end of transmission.
 ///
 /// A protected filter's record depends on its own frames and commands only, a grouped filter's record on those of its group only.
-/// `simulate` calls it.
+///
+/// Fails if a capture is refused, a source or sink fails, or memory runs out. `simulate` calls it.
 pub fn simulate_with_agenda<R: ByteSource, W: ByteSink, G: Agenda + Drop, A: Allocator + Copy>(
     alloc: A,
     accepted: &Accepted<A>,
@@ -211,7 +214,8 @@ pub fn simulate_with_agenda<R: ByteSource, W: ByteSink, G: Agenda + Drop, A: All
 
 /// Runs captures and commands through the bridge of an accepted plan: `simulate_with_agenda` with an ordered tree as agenda.
 ///
-/// `run_captures` of `app_commands` and `run_bridge` of `net_run` call it.
+/// Fails if a capture is refused, a source or sink fails, or memory runs out. `run_captures` of `app_commands` and `run_bridge` of
+/// `net_run` call it.
 pub fn simulate<R: ByteSource, W: ByteSink, A: Allocator + Copy>(
     alloc: A,
     accepted: &Accepted<A>,

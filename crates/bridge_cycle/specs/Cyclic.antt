@@ -8,7 +8,7 @@ use Rattle.bridge_cycle.specs.declared.cyclic_list.ListFault.{ListFault}
 use Rattle.bridge_cycle.specs.declared.cyclic_list.ListFault.TheVariants.{Empty, ZeroInterval, OverCycle, CycleOutOfRange, TooManyEntries, NoMemory}
 use Rattle.bridge_cycle.specs.declared.timeline.Turn.{Turn}
 
--- List that repeats: its base time and cycle time in ns, and its entries, each a state with the length of its interval
+-- List that repeats: base time and cycle time in ns, and entries. Each entry is a state with the length of its interval
 -- in ns.
 pub record Cyclic (S : Type 0) : Type 0 where
   pub base : ℕ

@@ -62,8 +62,8 @@ impl<S: Copy, A: Allocator + Copy> Joined<S, A> {
         })
     }
 
-    /// Returns the old and the new list, for searches that examine each list by itself. Functions of `bridge_bounds`, `bridge_check`,
-    /// `bridge_gate` and other crates call it.
+    /// Returns the old and the new list, for searches that examine each list by itself. `egress_longest_time` of `bridge_bounds`, `lets` of
+    /// `bridge_check` and many more call it.
     pub fn lists(&self) -> (&CyclicList<S, A>, &CyclicList<S, A>)
         ensures old { result.0.now ≡ self.now.old }
         ensures new { result.1.now ≡ self.now.new }
@@ -72,7 +72,8 @@ impl<S: Copy, A: Allocator + Copy> Joined<S, A> {
         (&self.old, &self.new)
     }
 
-    /// Returns the time in ns of the schedule change. Functions of `bridge_port`, `net_report`, `show_lint` and other crates call it.
+    /// Returns the time in ns of the schedule change. `fit_in_changing_list` of `bridge_port`, `active_list` of `net_report` and 4 more
+    /// call it.
     pub fn change_time(&self) -> u64
         ensures at { result ≡ self.now.at }
         ensures bounded { result < END_OF_TIME }

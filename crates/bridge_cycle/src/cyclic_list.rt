@@ -159,7 +159,7 @@ impl<S: Copy, A: Allocator + Copy> CyclicList<S, A> {
     }
 }
 
-/// Returns the first fault of a cycle time and entries; `None` if they make a valid list. `CyclicList::new` calls it.
+/// Returns the first fault of a cycle time in ns and entries; `None` if they make a valid list. `CyclicList::new` calls it.
 fn first_fault<S: Copy>(cycle: u64, entries: &[(S, u64)]) -> Option<ListFault>
     ensures { result ≡ cyclic.first_fault cycle entries.now }
 {
@@ -185,7 +185,7 @@ fn has_zero_interval<S: Copy>(entries: &[(S, u64)]) -> bool
     entries.iter().any(|entry| entry.1 == 0)
 }
 
-/// Whether the sum of the intervals is at most the cycle time. `first_fault` calls it.
+/// Whether the sum of the intervals is at most the cycle time in ns. `first_fault` calls it.
 fn is_within_cycle<S: Copy>(entries: &[(S, u64)], cycle: u64) -> bool
     ensures { (result ≡ true) ↔ (cyclic.interval_sum entries.now ≤ cycle) }
 {
@@ -239,8 +239,8 @@ fn is_in_entry(ends: &[u64], phase: u64, place: usize) -> bool
         && (place + 1 == ends.len() || phase < ends[place])
 }
 
-/// Returns the index of the entry in force at offset `phase`, if it is `guess` or next to `guess`; otherwise `None`. If all intervals have
-/// similar lengths, the guess usually succeeds.
+/// Returns the index of the entry in force at offset `phase` ns, if it is `guess` or next to `guess`; otherwise `None`. If all intervals
+/// have similar lengths, the guess usually succeeds.
 ///
 /// `find_index` calls it.
 #[inline(always)]
@@ -261,7 +261,7 @@ fn index_near_guess(ends: &[u64], phase: u64, guess: usize) -> Option<usize>
     None
 }
 
-/// Returns the index of the entry in force at offset `phase`, by binary search. `find_index` calls it after a wrong guess.
+/// Returns the index of the entry in force at offset `phase` ns, by binary search. `find_index` calls it after a wrong guess.
 #[inline(never)]
 fn search_index(ends: &[u64], phase: u64) -> usize
     requires some { 0 < length ends.now }
@@ -280,7 +280,7 @@ fn search_index(ends: &[u64], phase: u64) -> usize
     low
 }
 
-/// Returns the index of the entry in force at offset `phase`: by a guess first, then by binary search. `find_interval` calls it.
+/// Returns the index of the entry in force at offset `phase` ns: by a guess first, then by binary search. `find_interval` calls it.
 #[inline(always)]
 fn find_index(ends: &[u64], density: u64, phase: u64) -> usize
     requires some { 0 < length ends.now }
@@ -293,8 +293,8 @@ fn find_index(ends: &[u64], density: u64, phase: u64) -> usize
     }
 }
 
-/// Returns the state in force at offset `phase`, and the offsets at which its interval starts and ends. `CyclicList::turn` calls it for the
-/// offset of a time.
+/// Returns the state in force at offset `phase` ns, and the offsets at which the state's interval starts and ends. `CyclicList::turn` calls
+/// it for the offset of a time.
 #[inline(always)]
 fn find_interval<S: Copy>(
     entries: &[(S, u64)],

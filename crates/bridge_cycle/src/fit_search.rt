@@ -10,8 +10,7 @@ use crate::timeline::Timeline;
 /// End of the times, in ns, at which a search for a fit may begin. So each search ends before `END_OF_TURNS`.
 pub const END_OF_SEARCHES: u64 = 9_000_000_000_000_000_000;
 
-/// Whether a gate state opens `class`: bit c of the state opens class c. `first_fit`, `longest_open_time` and functions of `bridge_bounds`,
-/// `bridge_check`, `bridge_groups` and other crates call it.
+/// Whether a gate state opens `class`: bit c of the state opens class c. `first_fit`, `last_fit` of `bridge_bounds` and many more call it.
 pub fn is_open(state: u8, class: u8) -> bool
     requires { class < 8 }
     ensures { result ≡ moments.is_open state class }
@@ -20,7 +19,7 @@ pub fn is_open(state: u8, class: u8) -> bool
 }
 
 /// Returns the earliest time in ns, `from` or later, at which a transmission of `occ` ns fits, because `class` stays open (IEEE
-/// 802.1Q-2018, 8.6.8.4). Functions of `bridge_bounds`, `bridge_groups`, `bridge_port` and other crates call it.
+/// 802.1Q-2018, 8.6.8.4). `list_first_fit` of `bridge_bounds`, `next_fit_run` of `bridge_groups` and 3 more call it.
 pub fn first_fit<L: Timeline<State = u8>>(timeline: &L, class: u8, occ: u64, from: u64) -> u64
     requires class { class < 8 }
     requires occ { occ ≤ LONGEST_CYCLE }

@@ -21,7 +21,8 @@ pub enum Run {
 }
 
 impl Run {
-    /// Whether a transmission of `occupied` ns fits within the run. Functions of `bridge_check`, `bridge_port` and `show_lint` call it.
+    /// Whether a transmission of `occupied` ns fits within the run. `can_fit_in_list` of `bridge_check`, `can_fit` of `bridge_port` and 2
+    /// more call it.
     pub fn allows(self, occupied: u64) -> bool
         ensures { (result ≡ true) ↔ Allows self occupied }
     {
@@ -36,7 +37,7 @@ impl Run {
 /// Returns the longest time for which `class` is open without a break, also across the end of a cycle. A transmission of this length fits
 /// at most 1 s after any time.
 ///
-/// Functions of `bridge_check`, `bridge_port`, `net_check` and other crates call it.
+/// `can_fit_in_list` of `bridge_check`, `longest_runs` of `bridge_port` and 4 more call it.
 pub fn longest_run<A: Allocator + Copy>(list: &CyclicList<u8, A>, class: u8) -> Run
     requires { class < 8 }
     ensures longest { IsLongestRun (λ v. turn_opens (turn_by_time list.now v) class) result }

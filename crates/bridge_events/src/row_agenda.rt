@@ -1,4 +1,4 @@
-//! Agenda of the ports' next starts as a list of 16 times.
+//! Agenda of the ports' next transmissions as a list of 16 times.
 ghost use Rattle.std.specs.Prelude.{◌<◌, length};
 ghost use Rattle.bridge_events.specs.Least.{IsLeast, row_time};
 

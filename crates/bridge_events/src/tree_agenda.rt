@@ -1,4 +1,4 @@
-//! Agenda of the ports' next starts as a tree of two levels, which finds the least time in few steps.
+//! Agenda of the ports' next transmissions as a tree of two levels, which finds the least time in few steps.
 ghost use Rattle.std.specs.Prelude.{◌≡◌, ◌<◌, ◌+◌, ◌-◌, ◌*◌, ◌^◌, length, min, slice_set};
 ghost use Rattle.bridge_events.specs.Least.{IsLeast};
 ghost use Rattle.bridge_events.specs.Tree.{tree_time, nth_time, least_of_four, least_rest, HaveLeastKeys};

@@ -14,7 +14,7 @@ lesser_number None n = n
 lesser_number (Some m) None = Some m
 lesser_number (Some m) (Some n) = Some (min m n)
 
--- Least number of the filters for which `test` is true; `None` if there is no such filter.
+-- Least number of the filters for which `test` is true; `None` if `test` is true for no filter.
 abbrev pub least_passing : (FilterPlan → Bool) → List (ℕ × FilterPlan) → Option ℕ
 least_passing test [] = None
 least_passing test (f ∷ fs) = if test f.1 then lesser_number (Some f.0) (least_passing test fs) else least_passing test fs
@@ -23,7 +23,7 @@ least_passing test (f ∷ fs) = if test f.1 then lesser_number (Some f.0) (least
 abbrev pub least_match : Option ℕ → ℕ → List (ℕ × FilterPlan) → Option ℕ
 least_match handle priority fs = least_passing (λ f. is_handle_match f.handle handle && is_priority_match f.priority priority) fs
 
--- Least number of the filters without a handle that match this priority; `None` if there is no such filter.
+-- Least number of the filters without a handle that match this priority; `None` if no filter without a handle matches.
 abbrev pub least_unnamed : ℕ → List (ℕ × FilterPlan) → Option ℕ
 least_unnamed priority fs = least_passing (λ f. is_none f.handle && is_priority_match f.priority priority) fs
 
@@ -32,7 +32,8 @@ abbrev pub is_named_handle : ℕ → Option ℕ → Bool
 is_named_handle h None = false
 is_named_handle h (Some m) = nat_eq m h
 
--- Least number of the filters with exactly this handle that match this priority; `None` if there is no such filter.
+-- Least number of the filters with exactly this handle that match this priority; `None` if no filter with this handle
+-- matches.
 abbrev pub least_named : ℕ → ℕ → List (ℕ × FilterPlan) → Option ℕ
 least_named h priority fs = least_passing (λ f. is_named_handle h f.handle && is_priority_match f.priority priority) fs
 

@@ -77,7 +77,7 @@ pub record HasInstances {A : Type 0} (f : FilterState) (gates : List (ℕ × gat
   pub meter : HasMeter f.plan.meter meters
   pub few : AreBounded f.counters calls
 
--- Holds if for each filter, its gate and meter exist, and its counters are at most `calls`.
+-- Holds if each filter's gate and meter exist, and the filter's counters are at most `calls`.
 abbrev pub HaveInstances : {A : Type 0} → List (ℕ × FilterState) → List (ℕ × gate.GateState A) → List (ℕ × meter.MeterState) → ℕ → Type 0
 HaveInstances filters gates meters calls = (n : ℕ) (f : FilterState) → lookup (nat_eq n) filters ≡ Some f → HasInstances f gates meters calls
 

@@ -86,8 +86,8 @@ abbrev pub HasValidPriority : Verdict → Type 0
 HasValidPriority (verdict.Pass (Some ipv) eligible) = ipv ≤ 7
 HasValidPriority v = Unit {0}
 
--- Events at stream gate `g`, newest first: frames that reached it through its filters, and commands that clear one of
--- its flags.
+-- Events at stream gate `g`, newest first: frames that reached the gate through its filters, and commands that clear a
+-- flag of the gate.
 abbrev pub gate_share : ℕ → List FilterStep → List GateEvent
 gate_share g [] = []
 gate_share g (Unfiltered c ∷ ss) = gate_share g ss

@@ -6,8 +6,8 @@ ghost use Rattle.bridge_filter.specs.declared.FilterPlan.{FilterPlan};
 ghost use Rattle.bridge_filter.specs.Verdicts.{FilterInput, PolicePlans, FilterEvent, frame_filter, is_match, filter_steps};
 ghost use Rattle.bridge_filter.specs.OwnEvents.{HasOwnInstances, own_filter_events, own_steps};
 
-/// A filter is isolated: if no other filter uses its gate or its meter, its own events alone give its results. The isolation theorem rests
-/// on it.
+/// A filter is isolated: if no other filter uses its gate or its meter, only the filter's own events decide its results. The isolation
+/// theorem rests on it.
 pub fn own_events_suffice()
     ensures { (p : PolicePlans) (s : ℕ) (f : FilterPlan) → HasOwnInstances p s f → (es : List FilterEvent)
         → filter_steps p (own_filter_events p s f es) ≡ own_steps s f (filter_steps p es) }

@@ -33,7 +33,7 @@ pub struct Police<A: Allocator + Copy> {
     filters: ByNumber<FilterState, A>,
     /// Routes of all filters, in the order of the filters.
     routes: Vec<Route, A>,
-    /// Rows of frames whose handle a filter names: for each such handle, the index of a route for each priority.
+    /// Rows of frames whose handle a filter names: for each named handle, the index of a route for each priority.
     rows: HandleRows<A>,
     /// Row of all other frames.
     any: PriorityRow,

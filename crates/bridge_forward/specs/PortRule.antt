@@ -13,7 +13,8 @@ has_port_or otherwise (Some set) port = has_port set port
 abbrev pub is_member : Database → ℕ → ℕ → Bool
 is_member db vid port = has_port_or false (vlan_members db.vlans vid) port
 
--- True if no static entry has the address `da` in VLAN `vid`, or if the first such entry has `port`.
+-- True if no static entry has the address `da` in VLAN `vid`, or if the first entry with this address and VLAN has
+-- `port`.
 abbrev pub is_allowed : Database → ℕ → List ℕ → ℕ → Bool
 is_allowed db vid da port = has_port_or true (static_ports db.statics vid da) port
 

@@ -28,8 +28,9 @@ fn is_reserved(da: &[u8; 6]) -> bool
     da[..5] == [0x01, 0x80, 0xC2, 0x00, 0x00] && da[5] <= 0x0F
 }
 
-/// Returns the egress ports of a frame: members of its VLAN that its static entry allows, without ingress port `port`. The set is empty if
-/// the VLAN is unknown (`members` is `None`) or lacks `port`.
+/// Returns the egress ports of a frame: members of the frame's VLAN that the frame's static entry allows, without ingress port `port`.
+///
+/// The set is empty if the VLAN is unknown (`members` is `None`) or lacks `port`.
 ///
 /// `Forwarding::forward` calls it.
 #[inline(always)]
@@ -153,7 +154,7 @@ impl<A: Allocator + Copy> Forwarding<A> {
         }
     }
 
-    /// Returns the ports of the static entry for a VLAN and an address; `None` without such an entry. Tries the hinted index before the
+    /// Returns the ports of the static entry for a VLAN and an address; `None` if there is no entry. Tries the hinted index before the
     /// hash. `Forwarding::forward` calls it.
     #[inline(always)]
     fn static_ports(&self, vid: u16, da: &[u8; 6]) -> Option<PortSet>

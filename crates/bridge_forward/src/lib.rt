@@ -34,8 +34,8 @@ pub struct StaticEntry {
     pub ports: PortSet,
 }
 
-/// Returns the member ports of the first VLAN with the identifier `vid`; `None` if no VLAN has it. Functions of `net_model` and `show_lint`
-/// call it.
+/// Returns the member ports of the first VLAN with the identifier `vid`; `None` if no VLAN has it. `egress_ports` of `net_model`,
+/// `not_forwarded_cause` of `show_lint` and 2 more call it.
 pub fn find_members(vlans: &[Vlan], vid: u16) -> Option<PortSet>
     ensures { result ≡ vlan_members vlans.now vid }
 {

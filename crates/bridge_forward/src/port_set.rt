@@ -30,8 +30,7 @@ fn has_no_port(bits: u16) -> bool
 }
 
 impl PortSet {
-    /// Makes a set of bits: bit n - 1 is 1 if port n is in the set. `output_ports`, `Forwarding::forward` and functions of `bridge_config`
-    /// and `net_model` call it.
+    /// Makes a set of bits: bit n - 1 is 1 if port n is in the set. `output_ports`, `read_static` of `bridge_config` and 4 more call it.
     pub fn from_bits(bits: u16) -> PortSet
         ensures { result ≡ bits }
     {

@@ -192,7 +192,7 @@ pub fn mark_drop_eligible(octets: &mut [u8]) -> bool
     true
 }
 
-/// A frame whose tag was marked drop eligible keeps its header, except this mark; a malformed frame keeps its fault. So the next bridge
+/// A frame whose tag was marked drop eligible keeps its header, except this mark. A malformed frame keeps its fault. So the next bridge
 /// reads a marked frame as this bridge does.
 pub fn marked_head()
     ensures head { (octets : List ℕ) (len : ℕ) (h : Head) → parsed_head octets len ≡ Ok h
@@ -215,7 +215,7 @@ pub fn address_key(vid: u16, address: [u8; 6]) -> u64
 /// Returns the transmission time in ns, rounded up, of a frame of `len` octets. It includes padding to 60 octets, check sequence (4),
 /// preamble and delimiter (8) and gap (12).
 ///
-/// Functions of `bridge_bounds`, `bridge_check`, `bridge_groups` and other crates call it.
+/// `list_bound` of `bridge_bounds`, `can_ever_fit` of `bridge_check` and many more call it.
 #[tactic(auto, unfolding(crate::specs::Link::transmission_time))]
 #[inline(always)]
 pub fn occupation(len: u32, speed: Speed) -> u64

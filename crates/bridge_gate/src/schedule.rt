@@ -27,7 +27,7 @@ pub enum Schedule<A: Allocator + Copy> {
     Joined(Joined<GateEntry, A>),
 }
 
-/// Settings of a stream gate: its schedule, and which refusals shut the gate until a command clears its flag.
+/// Settings of a stream gate: the schedule, and which refusals shut the gate until a command clears the gate's flag.
 #[derive(Drop)]
 pub struct GatePlan<A: Allocator + Copy> {
     /// Whether a frame at the closed gate shuts the gate until a command clears the receive flag.
@@ -61,7 +61,7 @@ impl<A: Allocator + Copy> Schedule<A> {
         }
     }
 
-    /// Whether each internal priority value is 0 to 7 or absent. A stream gate is made only with such values.
+    /// Whether each internal priority value is 0 to 7 or absent. A stream gate is made only with valid values.
     pub fn has_valid_priorities(&self) -> bool
         ensures { result ≡ has_valid_priorities self.now }
     {

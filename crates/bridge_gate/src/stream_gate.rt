@@ -106,8 +106,8 @@ impl<A: Allocator + Copy> StreamGate<A> {
         self.answer_frame(t, turn, sdu)
     }
 
-    /// Returns the interval that contains time `t`: the stored interval, or else an interval of the schedule, which the gate then stores.
-    /// `ask` calls it.
+    /// Returns the interval that contains time `t` in ns: the stored interval, or else an interval of the schedule, which the gate then
+    /// stores. `ask` calls it.
     #[inline(always)]
     fn find_turn(&mut self, t: u64) -> Turn<GateEntry>
         requires range { t < END_OF_TIME }
@@ -174,7 +174,8 @@ impl<A: Allocator + Copy> StreamGate<A> {
         self.earliest
     }
 
-    /// Answers a frame in the interval `turn`, and updates flags and count. `ask` calls it with the interval of the arrival time.
+    /// Answers a frame that arrives at time `t` in ns, in the interval `turn`, and updates flags and count. `ask` calls it with the
+    /// interval of the arrival time.
     fn answer_frame(&mut self, t: u64, turn: Turn<GateEntry>, sdu: u32) -> GateAnswer
         ensures reply { result ≡ state_answer self.old turn sdu }
         ensures after { self.new ≡ gate_after_answer self.old t turn sdu result }

@@ -34,7 +34,7 @@ abbrev pub has_key : StreamEntry → ℕ → ℕ → List ℕ → Bool
 has_key e port vid address = nat_eq e.port port && nat_eq e.vid vid && bytes_eq e.address address
 
 -- First entry of kind `kind` with this port, VLAN identifier and address, among those for frames with (`tagged`) or
--- without a VLAN tag. `None` without such an entry.
+-- without a VLAN tag. `None` if no entry matches.
 --
 -- The result is the entry's index, counted from `n`, and its handle.
 abbrev pub first_entry : Kind → Bool → ℕ → List StreamEntry → ℕ → ℕ → List ℕ → Option FirstEntry

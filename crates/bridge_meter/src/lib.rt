@@ -161,8 +161,9 @@ impl Meter {
         self.buckets.all_red = false;
     }
 
-    /// Returns the colour of a frame: refills the buckets, takes the frame's units, and may set the red flag. While the red flag is set, it
-    /// returns `Red` and changes nothing.
+    /// Returns the colour of a frame that arrives at `t` ns: refills the buckets, takes the frame's units, and may set the red flag.
+    ///
+    /// While the red flag is set, it returns `Red` and changes nothing.
     ///
     /// `colour` calls it for each frame.
     fn judge_frame(&mut self, t: u64, octets: u32, dei: bool) -> Colour

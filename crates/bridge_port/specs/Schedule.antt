@@ -135,8 +135,8 @@ module _ {X : Type 0} where
   IsLawfulStart r h x Queued = Unit {0}
   IsLawfulStart r h x (Started s) = (s < h) × (x.at ≤ s) × Fits (r.opens x.class) (r.occ x.item) s
 
-  -- Holds if each copy that started did so before `h`, at or after its offer, while its class was open for the whole
-  -- transmission.
+  -- Holds if each copy that started did so before `h`, at or after the copy's offer, while the class was open for the
+  -- whole transmission.
   abbrev pub AreLawfulStarts : PortRules X → ℕ → List (Copy X) → Type 0
   AreLawfulStarts r h [] = Unit {0}
   AreLawfulStarts r h (x ∷ xs) = IsLawfulStart r h x x.fate × AreLawfulStarts r h xs

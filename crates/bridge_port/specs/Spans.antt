@@ -40,7 +40,7 @@ abbrev pub fit_in_spans : List OpenSpan → ℕ → ℕ → ℕ → Option ℕ
 fit_in_spans [] from occ stop = None
 fit_in_spans (x ∷ xs) from occ stop = let start = max from (min x.start stop) in if nat_le (min (start + occ) stop) x.end then Some start else fit_in_spans xs from occ stop
 
--- End in ns of the span at index `k`; 0 if there is no such span.
+-- End in ns of the span at index `k`; 0 if the list has no span at this index.
 abbrev pub span_end : List OpenSpan → ℕ → ℕ
 span_end [] k = 0
 span_end (x ∷ xs) zero = x.end

@@ -27,8 +27,10 @@ fn sooner_head(best: Option<(u64, usize)>, fit: u64, class: usize) -> Option<(u6
     }
 }
 
-/// Returns the better of the head `best` and the head of `class` with the earliest start `fit`; `best` if the class has no head (`None`).
-/// `sooner_head` compares them. `refresh_fits` calls it for each class.
+/// Returns the better of the head `best` and the head of `class` with the earliest start `fit` in ns. If the class has no head (`None`),
+/// returns `best`. `sooner_head` compares them.
+///
+/// `refresh_fits` calls it for each class.
 fn sooner_optional_head(
     best: Option<(u64, usize)>,
     fit: Option<u64>,
@@ -71,8 +73,10 @@ fn head_fit<T: Drop, A: Allocator + Copy>(
     }
 }
 
-/// Returns the earliest start, `from` or later, of the head of `class`; `None` if the queue is empty. Recomputes the stored start only if
-/// it is before `from`. `refresh_fits` calls it.
+/// Returns the earliest time in ns, `from` or later, at which the head of `class` can start; `None` if the queue is empty. Recomputes the
+/// stored start only if it is before `from`.
+///
+/// `refresh_fits` calls it.
 #[inline(always)]
 fn refresh_fit<T: Drop, A: Allocator + Copy>(
     fits: &mut [Option<u64>; 8],
@@ -105,8 +109,10 @@ fn refresh_fit<T: Drop, A: Allocator + Copy>(
     }
 }
 
-/// Recomputes each start in `fits` that is earlier than `from`. Returns the earliest start and its class, on a tie the higher class; `None`
-/// if all queues are empty. `refresh_after_start` calls it.
+/// Recomputes each start time in `fits` that is earlier than `from`, in ns. Returns the earliest start time and its class, on a tie the
+/// higher class; `None` if all queues are empty.
+///
+/// `refresh_after_start` calls it.
 pub fn refresh_fits<T: Drop, A: Allocator + Copy>(
     fits: &mut [Option<u64>; 8],
     gates: &mut TransmissionGates<A>,
@@ -165,8 +171,10 @@ pub fn add_item_fit<A: Allocator + Copy>(
     }
 }
 
-/// Recomputes the earliest starts after a start in `class`; the link is free from time `from`, and `left` items remain. Returns time and
-/// class of the best head; `None` if no item remains.
+/// Recomputes the earliest start times after a frame of `class` has started. The link is free from time `from` in ns on, and `left` items
+/// remain.
+///
+/// Returns time and class of the best head; `None` if no item remains.
 ///
 /// `start` calls it.
 #[inline(always)]

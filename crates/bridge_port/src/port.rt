@@ -1,4 +1,4 @@
-//! Egress port of a bridge: queues, transmission gates, and the next start.
+//! Egress port of a bridge: queues, transmission gates, and the next transmission.
 ghost use Rattle.std.specs.Prelude.{◌≡◌, ◌<◌, ◌≤◌, ◌+◌, ◌-◌, ◌&&◌, ℕ, Bool, true, Option, Some, None, IfOk, IfSome, IfNone, List, [], ◌∷◌, length, max, replicate, is_none, MatchOption, if◌then◌else◌};
 
 use crate::heads::{add_item_fit, refresh_after_start};
@@ -35,11 +35,11 @@ pub struct Port<T: Drop, A: Allocator + Copy> {
     earliest: u64,
     /// Number of offers so far.
     offered: u64,
-    /// Number of starts so far.
+    /// Number of transmissions that the port has started.
     started: u64,
     /// Earliest start in ns of the head of each class; `None` for an empty queue.
     fits: [Option<u64>; 8],
-    /// Time and class of the next start; `None` if all queues are empty.
+    /// Time in ns and class of the next transmission; `None` if all queues are empty.
     best: Option<(u64, usize)>,
 }
 
@@ -176,8 +176,8 @@ impl<T: Drop, A: Allocator + Copy> Port<T, A> {
         }
     }
 
-    /// Returns time in ns and class of the next start if nothing more is offered; `None` if all queues are empty. `next_start` and `start`
-    /// call it.
+    /// Returns start time in ns and class of the next transmission if nothing more is offered; `None` if all queues are empty. `next_start`
+    /// and `start` call it.
     fn next_head(&self) -> Option<(u64, usize)>
         ensures next { MatchOption result (IsIdle self.now) (λ b. StartsNext self.now b.0 b.1) }
         ensures kept { IsStateSound self.now }
@@ -185,8 +185,8 @@ impl<T: Drop, A: Allocator + Copy> Port<T, A> {
         self.best
     }
 
-    /// Returns the time in ns of the next start if nothing more is offered; `None` if all queues are empty. `Ports` of `bridge_relay`
-    /// stores this time in its agenda.
+    /// Returns the time in ns at which the next transmission starts if nothing more is offered; `None` if all queues are empty. `Ports` of
+    /// `bridge_relay` stores this time in its agenda.
     pub fn next_start(&self) -> Option<u64>
         ensures due { IsNextStartTime self.now result }
         ensures lawful { (xs : List (Copy (Item T)))
@@ -265,7 +265,7 @@ impl<T: Drop, A: Allocator + Copy> Port<T, A> {
         self.offered
     }
 
-    /// Returns the number of starts so far. `Relay::started` returns it.
+    /// Returns the number of transmissions that the port has started. `Ports::started` of `bridge_relay` calls it.
     pub fn started(&self) -> u64
         ensures { result ≡ self.now.started }
     {
@@ -282,8 +282,10 @@ impl<T: Drop, A: Allocator + Copy> Port<T, A> {
         self.earliest
     }
 
-    /// Returns the end of the last transmission in ns, gap included, or 0 before the first. The relay reads it after each start as the
-    /// frame's end of transmission. `PortState::start` of `bridge_relay` calls it.
+    /// Returns the end of the last transmission in ns, gap included, or 0 before the first. The relay reads this time after a transmission
+    /// has started, as the frame's end of transmission.
+    ///
+    /// `PortState::start` of `bridge_relay` calls it.
     pub fn free_time(&self) -> u64
         ensures free { result ≡ self.now.free }
         ensures bounded { result ≤ time_limit self.now.started }

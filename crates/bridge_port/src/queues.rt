@@ -12,7 +12,7 @@ use std::alloc::Allocator;
 /// Largest queue capacity in frames.
 pub const LARGEST_ROOM: u16 = 4_096;
 
-/// Whether each queue capacity is 1 to `LARGEST_ROOM` frames. A port is made only with such capacities.
+/// Whether each queue capacity is 1 to `LARGEST_ROOM` frames. A port is made only with valid capacities.
 pub fn are_valid_rooms(rooms: &[u16; 8]) -> bool
     ensures { result ≡ are_valid_rooms rooms.now }
 {

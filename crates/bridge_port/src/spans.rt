@@ -141,7 +141,7 @@ fn fit_in_spans(spans: &[OpenSpan], from: u64, occ: u64, stop: u64) -> Option<u6
     None
 }
 
-/// Returns the number of first spans that end at `t` or earlier, by binary search. This is the index of the first span that ends later.
+/// Returns the number of first spans that end at `t` ns or earlier, by binary search. This is the index of the first span that ends later.
 /// `find_index` calls it.
 #[inline(never)]
 fn search_index(spans: &[OpenSpan], t: u64) -> usize
@@ -161,7 +161,7 @@ fn search_index(spans: &[OpenSpan], t: u64) -> usize
     low
 }
 
-/// Whether all spans before index `place` end at `t` or earlier. `find_index` may then start at this index.
+/// Whether all spans before index `place` end at `t` ns or earlier. `find_index` may then start at this index.
 #[inline(always)]
 fn have_ended(spans: &[OpenSpan], place: usize, t: u64) -> bool
     requires { place ≤ length spans.now }
@@ -173,8 +173,8 @@ fn have_ended(spans: &[OpenSpan], place: usize, t: u64) -> bool
     u64::from(spans[place - 1].end) <= t
 }
 
-/// Whether the first span that ends after `t`, or the end of the list, is at most `MAX_WALK` spans after index `place`. `find_index` calls
-/// it.
+/// Whether the first span that ends after `t` ns, or the end of the list, is at most `MAX_WALK` spans after index `place`. `find_index`
+/// calls it.
 #[inline(always)]
 fn is_within_walk(spans: &[OpenSpan], place: usize, t: u64) -> bool
     requires { place ≤ length spans.now }
@@ -185,8 +185,8 @@ fn is_within_walk(spans: &[OpenSpan], place: usize, t: u64) -> bool
     t < u64::from(spans[place + MAX_WALK].end)
 }
 
-/// Returns the index of the first span that ends after `t`. The search starts at index `from`; all earlier spans have ended. `find_index`
-/// calls it near the last span found.
+/// Returns the index of the first span that ends after `t` ns. The search starts at index `from`; all earlier spans have ended.
+/// `find_index` calls it near the last span found.
 #[inline(always)]
 fn walk_spans(spans: &[OpenSpan], from: usize, t: u64) -> usize
     requires within { from ≤ length spans.now }
@@ -201,8 +201,8 @@ fn walk_spans(spans: &[OpenSpan], from: usize, t: u64) -> usize
     place
 }
 
-/// Returns the index of the first span that ends after `t`. The search starts at index `last` if that is near, otherwise it is a binary
-/// search. `fit_until_stop` calls it.
+/// Returns the index of the first span that ends after `t` ns. The search starts at index `last` if this index is near; otherwise it is a
+/// binary search. `fit_until_stop` calls it.
 #[inline(always)]
 fn find_index(spans: &[OpenSpan], last: usize, t: u64) -> usize
     ensures within { result ≤ length spans.now }

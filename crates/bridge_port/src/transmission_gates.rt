@@ -124,8 +124,8 @@ fn make_cache<A: Allocator + Copy>(
     }
 }
 
-/// Whether the kept interval contains `t`. If not, another interval of the lists may contain it. `find_turn` and `fits_in_kept_turn` call
-/// it.
+/// Whether the kept interval contains time `t` in ns. If not, another interval of the lists may contain it. `find_turn` and
+/// `fits_in_kept_turn` call it.
 #[inline(always)]
 fn has_time<A: Allocator + Copy>(kept: &Turn<u8>, list: &Egress<A>, t: u64) -> bool
     requires range { t < END_OF_SEARCHES }
@@ -137,7 +137,7 @@ fn has_time<A: Allocator + Copy>(kept: &Turn<u8>, list: &Egress<A>, t: u64) -> b
     kept.start <= t as i64 && t < kept.end
 }
 
-/// Keeps the interval that contains `t`: the interval kept so far, or an interval from the lists. `fits_in_turn` calls it.
+/// Keeps the interval that contains time `t` in ns: the interval kept so far, or an interval from the lists. `fits_in_turn` calls it.
 fn find_turn<A: Allocator + Copy>(kept: &mut Turn<u8>, list: &Egress<A>, t: u64)
     requires range { t < END_OF_SEARCHES }
     requires kept { IsListsTurn list.now kept.old }

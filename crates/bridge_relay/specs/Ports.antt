@@ -61,7 +61,7 @@ pub record HasOffered {G A : Type 0} (old new : PortsState G A) (q : ℕ) (s : P
   pub stands : (xs : List (Copy (Item (QueuedFrame A)))) → StandsFor s.port xs → StandsFor (offered_port s t c x).port (offered_copy s.port t c x ∷ xs)
   pub counts : (f : Item (QueuedFrame A) → Bool) → count_queued f (offered_port s t c x).port ≡ (if is_none (offer_refusal s.port c x) && f x then 1 else 0) + count_queued f s.port
 
--- Holds if port `q`, in state `s`, made its next start `b` at time `k` (ns). No other port changed.
+-- Holds if port `q`, in state `s`, started its next transmission `b` at time `k` (ns). No other port changed.
 pub record HasStarted {G A : Type 0} (old new : PortsState G A) (q : ℕ) (s : PortState A) (k : ℕ) (b : StartedFrame A) : Type 0 where
   pub from : 1 ≤ q
   pub there : port_state old q ≡ Some s

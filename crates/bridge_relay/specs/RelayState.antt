@@ -71,7 +71,7 @@ abbrev pub is_filter_unknown : List (ℕ × FilterPlan) → Option ℕ → Bool
 is_filter_unknown filters None = false
 is_filter_unknown filters (Some n) = not (is_listed n filters)
 
--- True if an item is invalid: its filter is missing from the plan, or it has more octets than its length.
+-- True if an item is invalid: the item's filter is missing from the plan, or the item has more octets than its length.
 abbrev pub is_item_invalid : {A : Type 0} → List (ℕ × FilterPlan) → Item (QueuedFrame A) → Bool
 is_item_invalid filters x = if is_filter_unknown filters x.load.flow then true else nat_lt x.len (length x.load.octets.items)
 

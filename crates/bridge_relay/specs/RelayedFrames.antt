@@ -135,13 +135,13 @@ pub record HasCopies {A : Type 0} (slots : List (Option (PortState A))) (set k :
 abbrev pub relay_before_frame : {G A : Type 0} → RelayState G A → RelayState G A
 relay_before_frame b = record b { arrived = b.arrived - 1 }
 
--- The VLAN, the priority and the drop eligible indication of a frame, by its tag or by its port's defaults `vid` and
--- `priority`.
+-- The VLAN, the priority and the drop eligible indication of a frame, by its tag or by the ingress port's defaults
+-- `vid` and `priority`.
 abbrev pub classify : Option Tag → ℕ → ℕ → (ℕ × ℕ × Bool)
 classify None vid priority = (vid, priority, false)
 classify (Some tag) vid priority = ((if nat_eq tag.vid 0 then vid else tag.vid), tag.pcp, tag.dei)
 
--- The number of the filter that matches a frame's filter data, or `None`.
+-- The number of the filter that matches a frame's filter data. `None` if no filter matches.
 abbrev pub input_filter_number : {A : Type 0} → Plan A → FilterInput → Option ℕ
 input_filter_number p c = option_map (λ f. f.0) (verdicts.frame_filter p.filters c)
 

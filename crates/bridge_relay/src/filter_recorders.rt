@@ -119,7 +119,7 @@ fn recorder_index<A: Allocator + Copy>(tables: &FilterRecorders<A>, number: u32)
 }
 
 /// Returns the index of the recorder with number `number`, which must exist. Tries the index `hint` first. `record_departure`,
-/// `record_verdict` and others find recorders by it.
+/// `record_answer` and 3 more call it.
 #[inline(always)]
 fn recorder_index_by_hint<A: Allocator + Copy>(
     tables: &FilterRecorders<A>,

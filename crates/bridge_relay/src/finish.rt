@@ -89,8 +89,8 @@ fn make_views<A: Allocator + Copy>(
 }
 
 impl<'a, G: Agenda + Drop, A: Allocator + Copy> Relay<'a, G, A> {
-    /// Does nothing; its contract states the run so far. All starts before the next due start were made, and the agenda has each port's
-    /// next start.
+    /// Does nothing; its contract states the run so far. All transmissions before the next due one have started, and the agenda has the
+    /// time of each port's next transmission.
     pub fn assert_reached(&self)
         ensures reaches { (p : config.Plan A) (es : List Event) (left : ℕ → List CapturedFrame) (h : ℕ)
             → RelayStandsFor p self.now es left → self.now.earliest ≤ h
@@ -110,8 +110,8 @@ impl<'a, G: Agenda + Drop, A: Allocator + Copy> Relay<'a, G, A> {
         self.ports.assert_agenda();
     }
 
-    /// Ends a run in which no start is due. Returns records of the filters in `order` and counts of the ports, in the empty lists `filters`
-    /// and `ports`.
+    /// Ends a run in which no transmission is due. Returns records of the filters in `order` and counts of the ports, in the empty lists
+    /// `filters` and `ports`.
     ///
     /// A protected filter's record depends on its own events only.
     pub fn finish(

@@ -149,7 +149,7 @@ impl<A: Allocator + Copy> PortState<A> {
         }
     }
 
-    /// Makes the port's next start, which is at time `start` in ns, and returns the copy that started. `Ports::start` calls it.
+    /// Starts the port's next transmission, which is due at time `start` in ns, and returns the copy that started. `Ports::start` calls it.
     #[inline(always)]
     pub fn start(&mut self, start: u64) -> StartedFrame<A>
         requires due { IsNextStartTime self.old.port (Some start) }

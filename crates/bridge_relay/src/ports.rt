@@ -1,4 +1,4 @@
-//! The ports of a bridge, and an agenda of their next starts.
+//! The ports of a bridge, and an agenda of their next transmissions.
 ghost use Rattle.std.specs.Prelude.{◌≡◌, ℕ, false, ◌<◌, ◌≤◌, ◌+◌, ◌-◌, [], Some, None, Option, length, nat_eq, if◌then◌else◌, slice_set, slice_index, IfOk, vec_capacity};
 ghost use Rattle.bridge_events.specs.Least.{IsLeast};
 ghost use Rattle.bridge_config.specs.Rules.{find_port};
@@ -18,7 +18,7 @@ use bridge_semantics::{PortCount, QueuedFrame};
 use std::alloc::Allocator;
 use std::marker::Model;
 
-/// Ports of a bridge, and the time of each port's next start.
+/// Ports of a bridge, and the time of each port's next transmission.
 #[derive(Drop)]
 pub struct Ports<G: Agenda + Drop, A: Allocator + Copy> {
     /// Ports by number: port n is at index n - 1 of 16, or `None` if the plan lacks it.
@@ -43,8 +43,8 @@ impl<G: Agenda + Drop, A: Allocator + Copy> Model for Ports<G, A> {
     } };
 }
 
-/// Sets the next start of port `port` to `due` ns; clears it if `due` is `None`. `Ports::start` calls it after each start, and
-/// `update_next_start` after offers.
+/// Sets the time of the next transmission of port `port` to `due` ns; clears it if `due` is `None`. `Ports::start` calls it after each
+/// transmission, and `update_next_start` after offers.
 #[inline(always)]
 fn set_next_start<G: Agenda>(agenda: &mut G, port: u8, due: Option<u64>)
     requires from { 1 ≤ port }
@@ -57,8 +57,8 @@ fn set_next_start<G: Agenda>(agenda: &mut G, port: u8, due: Option<u64>)
     }
 }
 
-/// Changes the next start of port `port` from `before` to `due`, both in ns. Does nothing if they are equal, as after most offers.
-/// `Ports::offer` calls it.
+/// Changes the time of the next transmission of port `port` from `before` to `due`, both in ns. Does nothing if both are equal, as after
+/// most offers. `Ports::offer` calls it.
 #[inline(always)]
 fn update_next_start<G: Agenda>(agenda: &mut G, port: u8, before: Option<u64>, due: Option<u64>)
     requires from { 1 ≤ port }
@@ -131,8 +131,8 @@ impl<G: Agenda + Drop, A: Allocator + Copy> Ports<G, A> {
         })
     }
 
-    /// Returns the next start: port and time in ns. At equal times, the lowest port is next. Returns `None` if no copy is queued.
-    /// `Relay::due` returns it.
+    /// Returns the port that starts a transmission next, and the start time in ns. At equal times, the lowest port is next. Returns `None`
+    /// if no copy is queued. `Relay::due` calls it.
     pub fn due(&self) -> Option<(u8, u64)>
         ensures { IsLeast (G.held self.now.agenda) result }
     {
@@ -200,7 +200,7 @@ impl<G: Agenda + Drop, A: Allocator + Copy> Ports<G, A> {
         }
     }
 
-    /// Returns the number of starts of port `number` so far: the number of frames that it sent. `Relay::started` calls it.
+    /// Returns the number of transmissions that port `number` has started. `Relay::started` calls it.
     pub fn started(&self, number: u8) -> u64
         requires from { 1 ≤ number }
         requires there { (s : PortState A) × (port_state self.now number ≡ Some s) }
@@ -237,8 +237,10 @@ impl<G: Agenda + Drop, A: Allocator + Copy> Ports<G, A> {
         }
     }
 
-    /// Returns the number of ports in `set` that exist, and the highest of them; 0 and 0 without such a port. A frame gets one copy for
-    /// each. `prepare_copies`, `offer_several_copies` and others call it.
+    /// Returns the number of ports in `set` that exist, and the highest of them; 0 and 0 if no port of the set exists. A frame gets one
+    /// copy for each port.
+    ///
+    /// `prepare_copies`, `offer_several_copies` and 2 more call it.
     #[inline(always)]
     pub fn count_outputs(&self, set: PortSet) -> (usize, u8)
         ensures count { result.0 ≡ count_outputs self.now.slots set 16 }

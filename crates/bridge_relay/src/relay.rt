@@ -130,7 +130,9 @@ pub struct Sent<A: Allocator + Copy> {
 }
 
 impl<'a, G: Agenda + Drop, A: Allocator + Copy> Relay<'a, G, A> {
-    /// Returns the port and time in ns of the next start, at equal times of the lowest port. Returns `None` if no copy is queued.
+    /// Returns the port that starts a transmission next, and the start time in ns. At equal times, the lowest port is next. Returns `None`
+    /// if no copy is queued.
+    ///
     /// `send_due_frames` and `Bridge::due` of `bridge_core` call it.
     pub fn due(&self) -> Option<(u8, u64)>
         ensures { IsLeast (G.held self.now.ports.agenda) result }
@@ -138,14 +140,14 @@ impl<'a, G: Agenda + Drop, A: Allocator + Copy> Relay<'a, G, A> {
         self.ports.due()
     }
 
-    /// Returns the number of frames that have arrived so far. `Bridge::arrived` returns it.
+    /// Returns the number of frames that have arrived so far. `Bridge::arrived` of `bridge_core` calls it.
     pub fn arrived(&self) -> u64
         ensures { result ≡ self.now.arrived }
     {
         self.arrived
     }
 
-    /// Returns the number of starts of port `port` so far: the number of frames that it has sent. `Bridge::started` returns it.
+    /// Returns the number of transmissions that port `port` has started. `Bridge::started` of `bridge_core` calls it.
     pub fn started(&self, port: u8) -> u64
         requires known { (out : PortPlan A) × (find_port self.now.plan.ports port ≡ Some out) }
         ensures { (p : config.Plan A) (es : List Event) (left : ℕ → List CapturedFrame)
@@ -156,7 +158,7 @@ impl<'a, G: Agenda + Drop, A: Allocator + Copy> Relay<'a, G, A> {
         self.ports.started(port)
     }
 
-    /// Returns the earliest time in ns at which the next event may happen. `Bridge::earliest` returns it.
+    /// Returns the earliest time in ns at which the next event may happen. `Bridge::earliest` of `bridge_core` calls it.
     pub fn earliest(&self) -> u64
         ensures { result ≡ self.now.earliest }
     {
@@ -232,8 +234,8 @@ impl<'a, G: Agenda + Drop, A: Allocator + Copy> Relay<'a, G, A> {
         self.earliest = t;
     }
 
-    /// Returns egress ports and filter input of the frame `octets`, which arrived on port `port` at time `at` with length `len`. If the
-    /// frame isn't forwarded, returns the reason. `arrive` calls it.
+    /// Returns egress ports and filter input of the frame `octets`, which arrived on port `port` at time `at` in ns with length `len`. If
+    /// the frame isn't forwarded, returns the reason. `arrive` calls it.
     #[inline(always)]
     fn find_destination(&self, at: u64, port: u8, octets: &[u8], len: u32) -> Destination
         requires from { 1 ≤ port }

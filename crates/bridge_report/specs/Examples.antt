@@ -37,8 +37,8 @@ pub one_frame : told (counted 1) (verdict.Pass None false ∷ []) (left ∷ []) 
 unfolding all_flags digits
 one_frame = refl
 
--- If a record is protected, without a set flag, bucket or dropped copy, its section as filter 10 is `told` of its other
--- fields.
+-- If a record is protected, without a set flag, bucket or dropped copy, the section of filter 10 is `told` of the
+-- record's other fields.
 pub section_is : {A : Type 0} (view : View A) → view.protected ≡ true → view.flags ≡ unset → view.buckets ≡ None → view.drops.items ≡ []
     → section_text 10 view ≡ told view.counters view.verdicts.items view.departures.items view.delay
 unfolding section_text state_lines copy_lines list_lines

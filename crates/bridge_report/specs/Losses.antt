@@ -61,20 +61,20 @@ loss_words place l = reason_words place (codes "blocked") l.blocked ++ (reason_w
     ++ (reason_words place (codes "red") l.red ++ (reason_words place (codes "yellow-dropped") l.yellow_dropped
     ++ (reason_words place (codes "full") l.full ++ reason_words place (codes "never") l.never))))))))
 
--- The line of a filter: its number, the number of its losses, the number of its frames, and each reason with its
--- number.
+-- The `lost:` line of a filter: its number, the number of its losses, the number of its frames, and each reason with
+-- its number.
 unfoldable pub lost_line : ℕ → ℕ → Losses → List ℕ
 lost_line filter frames l = codes "lost: filter " ++ (decimal filter ++ (codes ", " ++ (decimal (total l) ++ (codes " frames or copies of "
     ++ (decimal frames ++ (codes " frames" ++ (loss_words [] l ++ codes "\n")))))))
 
--- The line of a filter if it is protected and lost a frame or a copy; otherwise the empty text.
+-- The `lost:` line of a filter if it is protected and lost a frame or a copy; otherwise the empty text.
 abbrev pub line_if : Bool → ℕ → ℕ → Losses → List ℕ
 line_if protected filter frames l = if protected && not (nat_eq (total l) 0) then lost_line filter frames l else []
 
--- The line of a filter by its record; empty if the filter is unprotected or lost nothing.
+-- The `lost:` line of filter `filter` with record `view`; empty if the filter is unprotected or lost nothing.
 abbrev pub lost_lines_of : {A : Type 0} → ℕ → View A → List ℕ
 lost_lines_of filter view = line_if view.protected filter (length view.verdicts.items) (losses_of view.verdicts.items view.drops.items)
 
--- The lines of all protected filters that lost a frame or a copy, in list order.
+-- The `lost:` lines of all protected filters that lost a frame or a copy, in list order.
 abbrev pub lost_lines : {A : Type 0} → List (ℕ × View A) → List ℕ
 lost_lines filters = flat_map (λ f. lost_lines_of f.0 f.1) filters

@@ -27,7 +27,8 @@ test_line test passed refused = test ++ (codes " passed " ++ (decimal passed ++ 
 abbrev pub red_line : ℕ → List ℕ
 red_line red = codes "red " ++ (decimal red ++ codes "\n")
 
--- The lines of a filter's counters: matching frames, tests of size and stream gate, and red frames.
+-- The `matching`, `sdu`, `gate` and `red` lines of a filter: matching frames, tests of size and stream gate, and red
+-- frames.
 abbrev pub counter_lines : Counters → List ℕ
 counter_lines c = matching_line c.matching ++ (test_line (codes "sdu") c.sdu_passed c.sdu_refused
     ++ (test_line (codes "gate") c.gate_passed c.gate_refused ++ red_line c.red))
@@ -44,7 +45,7 @@ all_flags f = named_flag (codes "blocked") f.blocked ++ (named_flag (codes "rx")
 abbrev pub flags_line : Flags → List ℕ
 flags_line f = codes "flags" ++ (all_flags f ++ codes "\n")
 
--- The line of a meter's buckets: their levels in units of 1/(8*10^9) octet, and the time in ns of these levels.
+-- The `bucket` line of a meter: their levels in units of 1/(8*10^9) octet, and the time in ns of these levels.
 abbrev pub bucket_line : Option Buckets → List ℕ
 bucket_line None = codes "bucket none\n"
 bucket_line (Some b) = codes "bucket committed " ++ (decimal b.committed ++ (codes " excess " ++ (decimal b.excess
@@ -68,30 +69,30 @@ count_full drops = count_by (λ d. is_full d.refusal) drops
 abbrev pub count_never_fits : List Dropped → ℕ
 count_never_fits drops = count_by (λ d. never_fits d.refusal) drops
 
--- The line of a filter's copies: how many left (after the word `queued`), and how many ports dropped, by reason.
+-- The `queued` line of a filter: how many copies of its frames left, and how many the ports dropped, by reason.
 abbrev pub queued_line : List Departure → List Dropped → List ℕ
 queued_line departures drops = codes "queued " ++ (decimal (length departures) ++ (codes " full " ++ (decimal (count_full drops)
     ++ (codes " never " ++ (decimal (count_never_fits drops) ++ codes "\n")))))
 
--- The line of the longest delay in ns, from a frame's arrival to the end of its transmission.
+-- The `delay` line: the longest delay in ns, from a frame's arrival to the end of its transmission.
 abbrev pub delay_line : Option ℕ → List ℕ
 delay_line None = codes "delay none\n"
 delay_line (Some delay) = codes "delay " ++ (decimal delay ++ codes "\n")
 
--- The line of a frame: its number and its verdict.
+-- The `frame` line of a frame: number and verdict.
 abbrev pub frame_line : ℕ → Verdict → List ℕ
 frame_line number verdict = codes "frame " ++ (decimal number ++ (codes " " ++ (verdict_word verdict ++ codes "\n")))
 
--- The lines of frames that are numbered from `number`.
+-- The `frame` lines of frames that are numbered from `number`.
 abbrev pub frame_lines : ℕ → List Verdict → List ℕ
 frame_lines number [] = []
 frame_lines number (verdict ∷ more) = frame_line number verdict ++ frame_lines (number + 1) more
 
--- The line of a dropped copy: its frame's number, the egress port and the reason.
+-- The `drop` line of a dropped copy: the frame's number, the egress port and the reason.
 abbrev pub drop_line : Dropped → List ℕ
 drop_line d = codes "drop " ++ (decimal d.own ++ (codes " port " ++ (decimal d.port ++ (codes " " ++ (refusal_word d.refusal ++ codes "\n")))))
 
--- The line of a copy that left: its frame's number, the egress port, and start and end of its transmission in ns.
+-- The `out` line of a copy that left: the frame's number, the egress port, and start and end of the transmission in ns.
 abbrev pub departure_line : Departure → List ℕ
 departure_line d = codes "out " ++ (decimal d.own ++ (codes " port " ++ (decimal d.port
     ++ (codes " start " ++ (decimal d.start ++ (codes " done " ++ (decimal d.done ++ codes "\n")))))))
@@ -104,7 +105,7 @@ state_lines filter view = header_line filter view.protected ++ (counter_lines vi
 unfoldable pub copy_lines : {A : Type 0} → View A → List ℕ
 copy_lines view = queued_line view.departures.items view.drops.items ++ delay_line view.delay
 
--- The lines of the frames, numbered from 1, then of dropped copies, then of departures.
+-- The `frame` lines, numbered from 1, then the `drop` lines, then the `out` lines.
 unfoldable pub list_lines : {A : Type 0} → View A → List ℕ
 list_lines view = frame_lines 1 view.verdicts.items ++ (flat_map drop_line view.drops.items ++ flat_map departure_line view.departures.items)
 

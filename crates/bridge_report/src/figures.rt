@@ -7,7 +7,7 @@ use bridge_semantics::StoredOrigin;
 /// Returns the arrival time in ns of the frame with number `own`, from 1, among a filter's frames; 0 if no frame has this number. Tables
 /// compute delays from it.
 ///
-/// Functions of `net_report` and `show_tables` call it.
+/// `put_verdicts` of `net_report`, `push_delay` of `show_tables` and 3 more call it.
 pub fn arrival_time(origins: &[StoredOrigin], own: u64) -> u64
     ensures { result ≡ spec.at_of origins.now own }
 {

@@ -47,7 +47,8 @@ impl LineBlock {
         self.start = BLOCK_WIDTH;
     }
 
-    /// Writes `piece` in front of the block's text. The block must have space for it. The functions of `listed_lines` call it.
+    /// Writes `piece` in front of the block's text. The block must have space for it. `prepend_number`, `prepend_verdict` and 2 more call
+    /// it.
     #[inline(always)]
     pub fn prepend(&mut self, piece: &str)
         requires { length piece.now + length self.old ≤ 1920 }
@@ -69,7 +70,8 @@ impl LineBlock {
         self.start = write_digits(number, &mut self.octets, self.start);
     }
 
-    /// Writes `piece` and the decimal digits of `number` in front of the block's text. The functions of `listed_lines` call it.
+    /// Writes `piece` and the decimal digits of `number` in front of the block's text. `prepend_frame`, `prepend_drop` and
+    /// `prepend_departure` call it.
     #[inline(always)]
     pub fn prepend_number(&mut self, piece: &str, number: u64)
         requires { length piece.now + 20 + length self.old ≤ 1920 }

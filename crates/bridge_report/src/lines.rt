@@ -47,7 +47,8 @@ fn put_red<T: ReportSink>(text: &mut T, red: u64)
     text.put("\n");
 }
 
-/// Writes the lines of a filter's counters: matching frames, the tests of size and stream gate, and red frames. `put_state` calls it.
+/// Writes the `matching`, `sdu`, `gate` and `red` lines of a filter: matching frames, the tests of size and stream gate, and red frames.
+/// `put_state` calls it.
 pub fn put_counters<T: ReportSink>(text: &mut T, counters: &Counters)
     ensures { HasGrown T.contents text.old (counter_lines counters.now) text.new }
 {
@@ -86,7 +87,7 @@ pub fn put_flags<T: ReportSink>(text: &mut T, flags: &Flags)
     text.put("\n");
 }
 
-/// Writes the line of a meter's buckets: both levels in bucket units, and their time in ns. `put_optional_buckets` calls it.
+/// Writes the `bucket` line of a meter: both levels in bucket units, and their time in ns. `put_optional_buckets` calls it.
 fn put_buckets<T: ReportSink>(text: &mut T, buckets: &Buckets)
     ensures { HasGrown T.contents text.old (bucket_line (Some buckets.now)) text.new }
 {

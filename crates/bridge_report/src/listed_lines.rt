@@ -62,7 +62,7 @@ fn prepend_verdict(block: &mut LineBlock, verdict: Verdict)
     }
 }
 
-/// Writes the line of a frame in front of `block`: its number and its verdict. `fill_frames` calls it for each frame.
+/// Writes the `frame` line of a frame in front of `block`: number and verdict. `fill_frames` calls it for each frame.
 #[inline(always)]
 pub fn prepend_frame(block: &mut LineBlock, number: usize, verdict: Verdict)
     requires { 128 + length block.old ≤ 1920 }
@@ -86,7 +86,7 @@ fn prepend_refusal(block: &mut LineBlock, refusal: Refusal)
     }
 }
 
-/// Writes the line of a dropped copy in front of `block`: its frame's number, the port and the reason. `prepend_line` calls it.
+/// Writes the `drop` line of a dropped copy in front of `block`: the frame's number, the port and the reason. `prepend_line` calls it.
 #[inline(always)]
 fn prepend_drop(block: &mut LineBlock, dropped: &Dropped)
     requires { 128 + length block.old ≤ 1920 }
@@ -99,8 +99,8 @@ fn prepend_drop(block: &mut LineBlock, dropped: &Dropped)
     block.prepend_number("drop ", own);
 }
 
-/// Writes the line of a copy that left in front of `block`: frame number, port, and start and end of its transmission in ns. `prepend_line`
-/// calls it.
+/// Writes the `out` line of a copy that left in front of `block`: frame number, port, and start and end of its transmission in ns.
+/// `prepend_line` calls it.
 #[inline(always)]
 fn prepend_departure(block: &mut LineBlock, departure: &Departure)
     requires { 128 + length block.old ≤ 1920 }

@@ -27,7 +27,8 @@ fn fill_frames(block: &mut LineBlock, number: usize, verdicts: &[StoredVerdict])
     }
 }
 
-/// Writes the lines of a filter's frames with their verdicts, numbered from 1, by blocks of at most 15 lines. `put_lists` calls it.
+/// Writes the `frame` lines of a filter's frames, with their verdicts, numbered from 1, by blocks of at most 15 lines. `put_lists` calls
+/// it.
 pub fn put_frames<T: ReportSink>(text: &mut T, verdicts: &[StoredVerdict])
     ensures { HasGrown T.contents text.old (frame_lines 1 verdicts.now) text.new }
 {
@@ -72,14 +73,14 @@ fn put_copies<T: ReportSink, C: ListedCopy>(text: &mut T, copies: &[C])
     }
 }
 
-/// Writes one line for each dropped copy of the filter's frames. `put_lists` calls it.
+/// Writes one `drop` line for each dropped copy of the filter's frames. `put_lists` calls it.
 pub fn put_drops<T: ReportSink>(text: &mut T, drops: &[StoredDrop])
     ensures { HasGrown T.contents text.old (flat_map drop_line drops.now) text.new }
 {
     put_copies(text, drops);
 }
 
-/// Writes one line for each copy of the filter's frames that left. `put_lists` calls it.
+/// Writes one `out` line for each copy of the filter's frames that left. `put_lists` calls it.
 pub fn put_departures<T: ReportSink>(text: &mut T, departures: &[StoredDeparture])
     ensures { HasGrown T.contents text.old (flat_map departure_line departures.now) text.new }
 {

@@ -192,8 +192,8 @@ fn put_line<A: Allocator>(text: &mut TextBuilder<A>, filter: u32, frames: u64, l
     text.put("\n");
 }
 
-/// Writes the line of a filter, with `frames` frames in all, if the filter is protected and lost a frame or a copy. Otherwise writes
-/// nothing. `put_lost` calls it.
+/// Writes the `lost:` line of a filter, with `frames` frames in all, if the filter is protected and lost a frame or a copy. Otherwise
+/// writes nothing. `put_lost` calls it.
 fn put_if<A: Allocator>(
     text: &mut TextBuilder<A>,
     protected: bool,
@@ -222,8 +222,8 @@ fn put_lost<A: Allocator>(text: &mut TextBuilder<A>, filter: u32, view: &View<A>
     );
 }
 
-/// Returns one line for each protected filter that lost a frame or a copy, in filter order: the numbers of losses, frames and reasons. The
-/// text is empty without such a filter.
+/// Returns one `lost:` line for each protected filter that lost a frame or a copy, in filter order: the numbers of losses, frames and
+/// reasons. The text is empty if no protected filter lost anything.
 ///
 /// `lost_if` of `app_commands` calls it.
 pub fn lost_lines<A: Allocator + Copy>(

@@ -21,12 +21,13 @@ pub trait ReportSink {
     fn put_number(&mut self, piece: &str, number: u64)
         ensures { HasGrown contents self.old (piece.now ++ decimal number) self.new };
 
-    /// Appends the lines of `block` to the report. Lists of frames and copies are written in such blocks.
+    /// Appends the lines of `block` to the report. Lists of frames and copies are written in blocks of lines.
     fn put_block(&mut self, block: &LineBlock)
         ensures { HasGrown contents self.old block.now self.new };
 }
 
-/// Appends `piece` and the decimal digits of `number`, which may have more than 64 bits. Buckets have such numbers. `put_buckets` calls it.
+/// Appends `piece` and the decimal digits of `number`, which may have more than 64 bits. Levels of buckets have up to 128 bits.
+/// `put_buckets` calls it.
 #[tactic(auto, using(crate::proofs::Puts::puts))]
 pub fn put_wide_number<T: ReportSink, I: Integer>(text: &mut T, piece: &str, number: I)
     ensures { HasGrown T.contents text.old (piece.now ++ I.text number) text.new }

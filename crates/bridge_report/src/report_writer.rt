@@ -69,7 +69,7 @@ impl<W: Write + Drop, A: Allocator> BufferedWriter<W, A> {
     }
 }
 
-/// Appends `more` to `octets`. The fault is `NoMemory` if memory runs out. `push_number`, `BufferedWriter::put` and others call it.
+/// Appends `more` to `octets`. The fault is `NoMemory` if memory runs out. `push_number`, `BufferedWriter::put` and 2 more call it.
 #[inline(always)]
 fn push_octets<A: Allocator>(octets: &mut Vec<u8, A>, more: &[u8]) -> Result<(), ReportFault>
     ensures { OnOk result (octets.new.items ≡ octets.old.items ++ more.now) }

@@ -17,7 +17,7 @@ use std::io::Write;
 /// Buffer size in octets: a writer receives at most this number at once.
 const BUFFER_OCTETS: usize = 262_144;
 
-/// Returns the record of the filter with number `filter` in a run's result, or `None` if the result has no such filter. `hop_run` of
+/// Returns the record of the filter with number `filter` in a run's result, or `None` if the result lacks the filter. `hop_run` of
 /// `app_networks`, `section` and `has_section` call it.
 pub fn find_view<A: Allocator>(outcome: &Outcome<A>, filter: u32) -> Option<&View<A>>
     ensures { option_map (λ view. view.now) result ≡ lookup (nat_eq filter) outcome.now.filters.items }
@@ -66,8 +66,10 @@ pub fn report<A: Allocator + Copy>(alloc: A, outcome: &Outcome<A>) -> Result<Str
     text.finish()
 }
 
-/// Writes the sections of all filters to `writer`, and returns it flushed. The only allocation is the buffer of 262,144 octets. `write_to`
-/// of `app_commands` calls it for `run` and `net`.
+/// Writes the sections of all filters to `writer`, and returns it flushed. The only allocation is the buffer of 262,144 octets. Fails if
+/// the writer fails or memory runs out.
+///
+/// `write_to` of `app_commands` calls it for `run` and `net`.
 pub fn write_report<W: Write + Drop, A: Allocator + Copy>(
     alloc: A,
     outcome: &Outcome<A>,

@@ -19,16 +19,17 @@ abbrev pub is_no_memory : PlanFault → Bool
 is_no_memory fault.NoMemory = true
 is_no_memory _ = false
 
--- Holds if the fault of a reader of plans is the fault of its definition, unless memory ran out.
+-- Holds if a reader of plans returns the fault of its definition. If memory ran out, any definition is allowed.
 abbrev pub IsReadFault : {Y : Type 0} → PlanFault → Result Y PlanFault → Type 0
 IsReadFault = reading.Fails is_no_memory
 
--- Holds if the result of a reader of plans, its value mapped by a function, is the result of its definition, unless
--- memory ran out.
+-- Holds if a reader of plans returns the result of its definition: the same fault, or a value that the function maps to
+-- its value. If memory ran out, any definition is allowed.
 abbrev pub MatchesReadingView : {X Y : Type 0} → (X → Y) → Result X PlanFault → Result Y PlanFault → Type 0
 MatchesReadingView = reading.GivesAs is_no_memory
 
--- Holds if the result of a reader of plans is the result of its definition, unless memory ran out.
+-- Holds if a reader of plans returns the result of its definition: the same value or the same fault. If memory ran out,
+-- any definition is allowed.
 abbrev pub MatchesReading : {X : Type 0} → Result X PlanFault → Result X PlanFault → Type 0
 MatchesReading = reading.Gives is_no_memory
 

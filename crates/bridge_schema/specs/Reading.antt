@@ -19,17 +19,19 @@ abbrev pub Unless : Bool → Type 0 → Type 0
 Unless true Holds = Unit {0}
 Unless false Holds = Holds
 
--- Holds if the fault `e` of a reader is the fault of its definition `read`, unless `e` means that memory ran out.
+-- Holds if the reader's fault `e` is the fault of its definition `read`. If `e` means that memory ran out, any `read`
+-- is allowed.
 abbrev pub Fails : {Y E : Type 0} → (E → Bool) → E → Result Y E → Type 0
 Fails is_memory e read = Unless (is_memory e) (read ≡ Err e)
 
--- Holds if the result of a reader, its value mapped by `view`, is the result `read` of its definition, unless memory
--- ran out.
+-- Holds if a reader returns the result `read` of its definition: the same fault, or a value that `view` maps to the
+-- value of `read`. If memory ran out, any `read` is allowed.
 abbrev pub GivesAs : {X Y E : Type 0} → (E → Bool) → (X → Y) → Result X E → Result Y E → Type 0
 GivesAs is_memory view (Ok x) read = read ≡ Ok (view x)
 GivesAs is_memory view (Err e) read = Fails is_memory e read
 
--- Holds if the result of a reader is the result of its definition, unless memory ran out.
+-- Holds if a reader returns the result `read` of its definition: the same value or the same fault. If memory ran out,
+-- any `read` is allowed.
 abbrev pub Gives : {X E : Type 0} → (E → Bool) → Result X E → Result X E → Type 0
 Gives is_memory = GivesAs is_memory (λ x. x)
 

@@ -91,8 +91,8 @@ fn is_allowed_name(keys: &[KeyRule], name: &str, has_change: bool, table: &Table
     false
 }
 
-/// Whether a table has only allowed keys. `has_change` is true if the plan has a schedule change. `have_allowed_keys` and functions of
-/// `bridge_config` call it.
+/// Whether a table has only allowed keys. `has_change` is true if the plan has a schedule change. `have_allowed_keys`, `has_change_keys` of
+/// `bridge_config` and 8 more call it.
 pub fn has_allowed_keys(table: &Table, keys: &[KeyRule], has_change: bool) -> bool
     ensures known { result ≡ spec.has_allowed_keys has_change keys.now (table_view table.now) }
 {

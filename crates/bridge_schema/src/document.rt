@@ -37,8 +37,8 @@ fn is_spelled<W: Spell>(words: &[W], text: &str) -> bool
     words.iter().any(|word| word.spell() == text)
 }
 
-/// Whether each key of a table is one of `words`: keys of an instance, or sections of a document. Functions of `bridge_config` and
-/// `net_file` call it.
+/// Whether each key of a table is one of `words`: keys of an instance, or sections of a document. `command_items` of `bridge_config`,
+/// `read_bridge` of `net_file` and 7 more call it.
 pub fn has_only<W: Spell>(table: &Table, words: &[W]) -> bool
     ensures known { result ≡ spec.are_known W.spelling words.now (table_view table.now) }
 {
@@ -99,7 +99,7 @@ fn array_items<'a, F: ReaderFault>(
 /// Returns the tables of a section in the document `table`; none if the section is absent. Refuses a section that isn't an array of tables
 /// or exceeds its limit. Allocates no memory.
 ///
-/// Functions of `bridge_config` and `net_file` call it.
+/// `command_items` of `bridge_config`, `read_arrays` of `net_file` and 2 more call it.
 pub fn section_items<'a, F: ReaderFault>(
     section: F::Section,
     table: &'a Table,

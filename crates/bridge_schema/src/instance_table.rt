@@ -26,8 +26,7 @@ pub struct InstanceTable<'t> {
 }
 
 impl<'t> InstanceTable<'t> {
-    /// Returns the location of `key`, for faults. The methods of `InstanceTable` that read keys call it, and `read_list_parts` of
-    /// `bridge_config`.
+    /// Returns the location of `key`, for faults. `read_required`, `read_list_parts` of `bridge_config` and 4 more call it.
     pub fn locate_key(&self, key: Field) -> KeyLocation
         ensures { result ≡ record { section = self.now.section; index = self.now.index; field = key } }
     {
@@ -92,8 +91,8 @@ impl<'t> InstanceTable<'t> {
         read_or_default(default, self.table, self.locate_key(key), key, kind)
     }
 
-    /// If the table has the key `other`, reads `key`, which is then required. Otherwise returns `absent`. Allocates no memory. Readers of
-    /// lists call it.
+    /// If the table has the key `other`, reads `key`, which is then required. Otherwise returns `absent`. Allocates no memory. If the value
+    /// is missing or refused, returns its fault. Readers of lists call it.
     pub fn read_required_if_present<K: ValueKind>(
         &self,
         other: Field,
@@ -115,8 +114,8 @@ impl<'t> InstanceTable<'t> {
         read_required_if_present(other, absent, self.table, self.locate_key(key), key, kind)
     }
 
-    /// If the table lacks the key `other`, reads `key`, which is then required. Otherwise returns `absent`. Allocates no memory. Readers of
-    /// lists call it.
+    /// If the table lacks the key `other`, reads `key`, which is then required. Otherwise returns `absent`. Allocates no memory. If the
+    /// value is missing or refused, returns its fault. Readers of lists call it.
     pub fn read_required_if_absent<K: ValueKind>(
         &self,
         other: Field,

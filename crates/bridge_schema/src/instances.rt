@@ -16,7 +16,7 @@ pub trait SectionReader<A: Allocator + Copy> {
     /// Instance that a table describes, such as a port.
     type Instance;
 
-    /// Instance that a table describes, from the earlier instances, its index and its table; or its first fault.
+    /// Instance that a table describes, from the earlier instances, its index and its table; or the table's first fault.
     ghost reading: { Self → List Self.Instance → ℕ → Members → Result Self.Instance Self.Fault };
 
     /// Property of the list of instances read so far, such as different numbers. Each further instance keeps it.
@@ -37,7 +37,7 @@ pub trait SectionReader<A: Allocator + Copy> {
 }
 
 /// Reads the instances of a section in order, one from each table, or returns the first fault. `Keeps` must hold for the empty list.
-/// Functions of `bridge_config` and `net_file` call it.
+/// `commands_of` of `bridge_config`, `read_sections` of `net_file` and 4 more call it.
 pub fn read_instances<A: Allocator + Copy, S: SectionReader<A>>(
     alloc: A,
     section: &S,

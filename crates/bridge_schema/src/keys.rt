@@ -332,8 +332,8 @@ pub fn section_lists(section: Section) -> &'static [ListKeys] {
     }
 }
 
-/// Returns the first key that identifies an instance, such as `number` of a port. Explanations name the instance by this key. Functions of
-/// `show_explain` call it.
+/// Returns the first key that identifies an instance, such as `number` of a port. Explanations name the instance by this key.
+/// `put_instance_position` and `put_allowed` of `show_explain`, and 2 more call it.
 pub fn identifying_key(section: Section) -> Field {
     match section {
         Section::Vlan | Section::Static => Field::Vid,

@@ -64,6 +64,7 @@ pub fn read_required<K: ValueKind>(
 }
 
 /// Reads the value of an optional key at `place`. If the table lacks the key, `value` is `None`, and so is the result. Allocates no memory.
+/// If the value is refused, returns its fault.
 pub fn optional_value<F: ReaderFault, K: ValueKind>(
     place: F::Place,
     kind: &K,
@@ -99,7 +100,7 @@ pub fn read_optional<K: ValueKind>(
 }
 
 /// Reads the value of an optional key at `place`. If the table lacks the key, `value` is `None`, and the result is `default`. Allocates no
-/// memory.
+/// memory. If the value is refused, returns its fault.
 pub fn value_or_default<F: ReaderFault, K: ValueKind>(
     default: K::Out,
     place: F::Place,

@@ -99,7 +99,8 @@ pub record IsFilterView {A : Type 0} (p : Plan A) (s : ℕ) (f : FilterPlan) (es
 abbrev pub IsPortCopy : (ℕ → List (Copy CarriedFrame)) → ℕ → Copy CarriedFrame → Type 0
 IsPortCopy lists q x = IsMember x (lists q)
 
--- Holds if the copies `lists q` of each port `q` are exactly its offers, and obey its rules up to time `moments q` in ns. A missing port has no copies.
+-- Holds if the copies `lists q` of each port `q` are exactly the port's offers, and obey its rules up to time `moments
+-- q` in ns. A missing port has no copies.
 pub record IsRun {A : Type 0} (p : Plan A) (es : List Event) (moments : ℕ → ℕ) (lists : ℕ → List (Copy CarriedFrame)) : Type 0 where
   pub offers : (q : ℕ) (out : PortPlan A) → find_port p.ports q ≡ Some out → copy_offers (lists q) ≡ port_offers p out es
   pub lawful : (q : ℕ) (out : PortPlan A) → find_port p.ports q ≡ Some out → IsLawful (egress_rules out) (moments q) (lists q)
@@ -169,7 +170,8 @@ pub record AreSolo {A : Type 0} (p : Plan A) (es : List Event) (lists : ℕ → 
   pub solo : (q c : ℕ) (out : PortPlan A) → find_port p.ports q ≡ Some out → IsSolo (egress_rules out) (lists q c)
   pub others : (q c : ℕ) → find_port p.ports q ≡ None → lists q c ≡ []
 
--- Holds if the copies of filter `n` in `lists` are exactly those that its own events give, each queue with its port to itself.
+-- Holds if the copies of filter `n` in `lists` are exactly those that the filter's own events give, each queue with a
+-- port to itself.
 pub record AreOwnQueues {A : Type 0} (p : Plan A) (n : ℕ) (f : FilterPlan) (es : List Event) (lists : ℕ → List (Copy CarriedFrame)) : Type 0 where
   pub own : ℕ → ℕ → List (Copy CarriedFrame)
   pub solo : AreSolo p (own_events p n f es) own

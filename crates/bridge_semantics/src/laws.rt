@@ -41,8 +41,8 @@ pub fn own_queues<A: Allocator + Copy>()
         → (x.item.flow ≡ Some n) ↔ (reaches_queue p f q x.class ≡ true) }
 {}
 
-/// The copies of a protected filter are exactly those that its own events give if each queue has its port to itself. The law holds in every
-/// complete run of an accepted plan.
+/// The copies of a protected filter are exactly those that the filter's own events give if each queue has a port to itself. The law holds
+/// in every complete run of an accepted plan.
 ///
 /// The isolation theorem rests on it.
 pub fn own_queues_alone<A: Allocator + Copy>()
@@ -75,8 +75,8 @@ pub fn no_other_class_occupies<A: Allocator + Copy>()
         → x.class ≡ c }
 {}
 
-/// The scheduler neither misses nor delays a start of a protected filter's reachable class. Its copies start as if the class had the link
-/// alone (`alone`).
+/// The scheduler neither misses nor delays a transmission of a protected filter's reachable class. Its copies start as if the class had the
+/// link alone (`alone`).
 ///
 /// Each copy starts at the first time that fits, once it has arrived and the class's previous copy has left (`at_once`, `own`).
 /// docs/ISOLATION.md cites it.
@@ -122,8 +122,8 @@ pub fn starts_as_alone<A: Allocator + Copy>()
         (max x.at (last_done_time (egress_rules out) (class_copies x.class older))) s }
 {}
 
-/// A protected filter's record in a run equals its record if only its own events arrive and each queue has its port to itself. This is the
-/// isolation theorem (docs/ISOLATION.md).
+/// A protected filter's record in a run equals the record if only the filter's own events arrive and each queue has a port to itself. This
+/// is the isolation theorem (docs/ISOLATION.md).
 pub fn filter_is_isolated<A: Allocator + Copy>()
     ensures { (p : Plan A) (n : ℕ) (f : FilterPlan) (es : List Event) (lists : ℕ → List (Copy CarriedFrame))
         (o : Outcome A) (v : View A)

@@ -102,7 +102,7 @@ impl StoredDeparture {
         }
     }
 
-    /// Unpacks the departure. `unpack_departures` and functions of `app_commands`, `bridge_report`, `net_report` and other crates call it.
+    /// Unpacks the departure. `unpack_departures`, `last_frame` of `app_commands` and many more call it.
     #[inline(always)]
     pub fn departure(&self) -> Departure
         ensures { result ≡ self.now }
@@ -151,7 +151,7 @@ impl StoredDrop {
         }
     }
 
-    /// Unpacks the drop. `unpack_drops` and functions of `bridge_report`, `net_report`, `show_picture` and other crates call it.
+    /// Unpacks the drop. `unpack_drops`, `prepend_line` of `bridge_report` and 10 more call it.
     #[inline(always)]
     pub fn dropped_copy(&self) -> Dropped
         ensures { result ≡ self.now }

@@ -101,7 +101,7 @@ impl StoredVerdict {
         self.kind
     }
 
-    /// Returns the verdict. Functions of `bridge_report`, `net_report`, `show_picture` and other crates call it.
+    /// Returns the verdict. `fill_frames` of `bridge_report`, `count_verdicts` of `net_report` and many more call it.
     #[inline(always)]
     pub fn verdict(&self) -> Verdict
         ensures { result ≡ self.now }

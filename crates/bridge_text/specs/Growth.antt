@@ -1,7 +1,8 @@
 -- How a text changes when pieces are added. `None` is a text that was discarded because memory ran out.
 use Rattle.std.specs.Prelude.{◌≡◌, ◌++◌, ℕ, List, Option, Some, None, ⊤}
 
--- Holds if the new text is the old text followed by `octets`, or `None`. A `None` stays `None`.
+-- Holds if the new text is the old text followed by `octets`, or if the new text is `None`. An old text `None` allows
+-- only `None`.
 abbrev pub Grows : Option (List ℕ) → List ℕ → Option (List ℕ) → Type 0
 Grows old octets None = ⊤
 Grows None octets (Some new) = ⊥

@@ -13,7 +13,8 @@ pub struct Document<'a> {
     pub table: &'a Table,
 }
 
-/// Returns the items of an array, or an empty slice for any other value. `section_instances` and functions of `show_explain` call it.
+/// Returns the items of an array, or an empty slice for any other value. `section_instances`, `is_list_refused` of `show_explain` and 3
+/// more call it.
 pub fn value_items<'a>(value: Option<&'a Value>) -> &'a [Value] {
     match value {
         Some(Value::Array(items)) => items,
@@ -21,8 +22,8 @@ pub fn value_items<'a>(value: Option<&'a Value>) -> &'a [Value] {
     }
 }
 
-/// Returns the items of the array `section`; no items if the section is absent or isn't an array. `instance_table`, `put_too_many` and
-/// others, also in `show_explain`, call it.
+/// Returns the items of the array `section`; no items if the section is absent or isn't an array. `instance_table`, `section_items` of
+/// `show_explain` and 5 more call it.
 pub fn section_instances<'a>(table: &'a Table, section: &str) -> &'a [Value] {
     value_items(table.get(section))
 }
@@ -37,8 +38,8 @@ pub fn instance_table<'a>(table: &'a Table, section: &str, index: u32) -> Option
     }
 }
 
-/// Returns the value at `key`. `None` if there is no table, or the table lacks the key. `Instance::value`, `is_twin` and functions of
-/// `show_explain` call it.
+/// Returns the value at `key`. `None` if there is no table, or the table lacks the key. `Instance::value`, `key_value` of `show_explain`
+/// and 3 more call it.
 pub fn table_value<'a>(table: Option<&'a Table>, key: &str) -> Option<&'a Value> {
     match table {
         Some(table) => table.get(key),
@@ -47,7 +48,9 @@ pub fn table_value<'a>(table: Option<&'a Table>, key: &str) -> Option<&'a Value>
 }
 
 /// Returns the value as a number if it is an integer of at least 0; otherwise `None`. Explanations of faults read the numbers in a file by
-/// it. Functions of `show_explain` call it.
+/// it.
+///
+/// `entry_interval` and `is_list_refused` of `show_explain`, and 5 more call it.
 pub fn unsigned_number(value: Option<&Value>) -> Option<u64> {
     match value {
         Some(Value::Integer(number)) if *number >= 0 => Some(*number as u64),
@@ -73,8 +76,8 @@ impl<'a> Instance<'a> {
         instance_table(self.document.table, self.section, self.index)
     }
 
-    /// Returns the value at `key`. `None` if the document lacks the table, or the table lacks the key. `put_identifying_key` and functions
-    /// of `show_explain` call it.
+    /// Returns the value at `key`. `None` if the document lacks the table, or the table lacks the key. `put_identifying_key`,
+    /// `put_key_value` of `show_explain` and 3 more call it.
     pub fn value(self, key: &str) -> Option<&'a Value> {
         table_value(self.table(), key)
     }

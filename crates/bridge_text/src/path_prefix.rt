@@ -15,8 +15,8 @@ pub fn text_with_path(alloc: Global, path: &str, body: &str) -> Result<String, N
     Ok(format!(in alloc; "{path}{body}")?)
 }
 
-/// Returns `path` followed by the finished text of `body`. `NoMemory` if memory ran out for the body or for the new text. Functions of
-/// `show_explain` and `show_lint` call it.
+/// Returns `path` followed by the finished text of `body`. `NoMemory` if memory ran out for the body or for the new text.
+/// `explain_arguments` of `show_explain`, `explain_check` of `show_lint` and 7 more call it.
 pub fn finish_with_path(
     alloc: Global,
     path: &str,

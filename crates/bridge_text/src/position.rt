@@ -137,8 +137,8 @@ pub fn top_level_position(text: &str, key: &str) -> Option<Position> {
     None
 }
 
-/// Writes a position, if it is known, after the name of the file. `Instance::put_place`, `put_no_list` and functions of `net_latency`,
-/// `show_explain` and `show_lint` call it.
+/// Writes a position, if it is known, after the name of the file. `Instance::put_place`, `put_row_position` of `net_latency` and 7 more
+/// call it.
 pub fn put_position<A: Allocator>(said: &mut TextBuilder<A>, position: Option<Position>) {
     match position {
         Some(Position { line, column }) => said.put_template(

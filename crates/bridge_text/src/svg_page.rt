@@ -85,7 +85,7 @@ impl Page {
     }
 
     /// Writes words of the program itself as a piece of the current shape. The words aren't escaped, so they must not come from users.
-    /// `put_span` and functions of `show_picture` call it.
+    /// `put_span`, `put_hypercycle` of `show_picture` and 2 more call it.
     pub fn add_words(&mut self, words: &str) {
         self.shapes.add_piece(words, &[], &[]);
     }
@@ -96,8 +96,8 @@ impl Page {
         self.shapes.begin_text(style, (x, y));
     }
 
-    /// Moves down by `by` (tenths of a pixel), and begins a line of text at the left end of the time axis. Functions of `show_picture` call
-    /// it.
+    /// Moves down by `by` (tenths of a pixel), and begins a line of text at the left end of the time axis. `begin_head` and `put_selection`
+    /// of `show_picture`, and 2 more call it.
     pub fn begin_text_line(&mut self, style: &str, by: u64) {
         self.skip_height(by);
         self.begin_text(style, AXIS_LEFT, self.bottom);
@@ -137,8 +137,8 @@ impl Page {
         self.shapes.end_shape();
     }
 
-    /// Draws a bar at the distance `x` from the left and `by` below the page's lower end. All lengths are tenths of a pixel. `put_axis` and
-    /// functions of `show_picture` call it.
+    /// Draws a bar at the distance `x` from the left and `by` below the page's lower end. All lengths are tenths of a pixel. `put_axis`,
+    /// `put_hatches` of `show_picture` and 5 more call it.
     pub fn put_bar(&mut self, style: &str, x: u64, by: u64, width: u64, height: u64) {
         self.draw(style, bar(x, self.bottom_plus(by), width, height));
     }
@@ -226,7 +226,7 @@ impl Page {
         }
     }
 
-    /// Writes the label of time `at` on the axis. The text is at the point `x`, `y`. `put_axis` calls it for each grid line.
+    /// Writes the label of time `at`, in ns, on the axis. The text is at the point `x`, `y`. `put_axis` calls it for each grid line.
     fn put_axis_label(&mut self, span: Span, x: u64, y: u64, at: u64) {
         self.begin_text("m", x, y);
         self.put_time(span.time_scale(), at);
@@ -287,7 +287,7 @@ impl Span {
     /// Returns the distance of time `t` (ns) from the left of the page, in tenths of a pixel. Times outside the span are at the ends of the
     /// axis.
     ///
-    /// `put_axis`, `page_extent` and functions of `show_picture` call it.
+    /// `put_axis`, `visit_frame` of `show_picture` and 2 more call it.
     pub fn page_x(self, t: u64) -> u64
         ensures from { AXIS_LEFT ≤ result }
         ensures to { result ≤ AXIS_LEFT + AXIS_WIDTH }
@@ -328,7 +328,7 @@ fn sample_mark(x: u64, base: u64, tip: u64) -> Element {
     })
 }
 
-/// Returns `yes` if `is` is true, otherwise `no`. `put_time` and functions of `show_picture` call it.
+/// Returns `yes` if `is` is true, otherwise `no`. `put_time`, `draw_lane` of `show_picture` and 3 more call it.
 pub fn choose_word(is: bool, yes: &'static str, no: &'static str) -> &'static str {
     if is { yes } else { no }
 }

@@ -37,7 +37,7 @@ impl Shapes {
         }
     }
 
-    /// Returns the number of omitted shapes, for a note in the picture. `Page::finish` and functions of `net_report` call it.
+    /// Returns the number of omitted shapes, for a note in the picture. `Page::finish`, `put_window` of `net_report` and 2 more call it.
     pub fn omitted_shapes(&self) -> u64 {
         self.omitted
     }

@@ -15,21 +15,21 @@ pub struct Span {
 pub type TimeScale = (u64, &'static str, u64);
 
 impl Span {
-    /// Returns the span's duration in ns, at least 1: it is a divisor. `axis_distance`, `Span::origin` and others call it.
+    /// Returns the span's duration in ns, at least 1: it is a divisor. `axis_distance`, `Span::origin` and 2 more call it.
     fn duration(self) -> u64
         ensures { 1 ≤ result }
     {
         self.to.saturating_sub(self.from).max(1)
     }
 
-    /// Whether the span overlaps the time from `from` up to `to` in ns; both ends are excluded. `put_axis` and functions of `show_picture`
-    /// call it.
+    /// Whether the span overlaps the time from `from` up to `to` in ns; both ends are excluded. `put_axis`, `visit_frame` of `show_picture`
+    /// and 2 more call it.
     pub fn has_overlap(self, from: u64, to: u64) -> bool {
         self.from < to && from < self.to
     }
 
-    /// Returns the distance of time `t` along an axis of length `line`. Times outside the span are at the ends of the axis. `page_x` and
-    /// `time_x` of `net_report` call it.
+    /// Returns the distance of time `t`, in ns, along an axis of length `line`. Times outside the span are at the ends of the axis.
+    /// `page_x` and `time_x` of `net_report` call it.
     pub fn axis_distance(self, t: u64, line: u64) -> u64
         ensures { result ≤ line }
     {
@@ -49,8 +49,8 @@ impl Span {
         if is_far { from - from % power } else { 0 }
     }
 
-    /// Returns origin and unit for the span's times: µs for a duration below 2 ms, ms below 2 s, otherwise s. `put_duration`, `put_span`
-    /// and others, also in `show_picture`, call it.
+    /// Returns origin and unit for the span's times: µs for a duration below 2 ms, ms below 2 s, otherwise s. `put_duration`, `put_title`
+    /// of `show_picture` and 2 more call it.
     pub fn time_scale(self) -> TimeScale {
         match self.duration() {
             0..2_000_000 => (self.origin(), "µs", 1),

@@ -57,7 +57,7 @@ impl<A: Allocator> TextBuilder<A> {
         }
     }
 
-    /// Adds a number in decimal digits. Methods of `TextBuilder`, and functions of `app_failure` and other crates call it.
+    /// Adds a number in decimal digits. `put_placeholder`, `put_filter_fault` of `app_failure` and many more call it.
     pub fn put_number(&mut self, number: u64)
         ensures { HasGrown self.old (decimal number) self.new }
     {
@@ -65,8 +65,8 @@ impl<A: Allocator> TextBuilder<A> {
         self.put(digits.format(number));
     }
 
-    /// Adds an integer of any width in decimal digits, with a minus sign if it is negative. `put_item` and functions of `bridge_report`,
-    /// `net_check`, `net_latency` and other crates call it.
+    /// Adds an integer of any width in decimal digits, with a minus sign if it is negative. `put_item`, `put_counted` of `bridge_report`
+    /// and 8 more call it.
     pub fn put_integer<I: Integer>(&mut self, number: I)
         ensures { HasGrown self.old (I.text number) self.new }
     {
@@ -168,7 +168,7 @@ impl<A: Allocator> TextBuilder<A> {
     /// Adds a template with its values: numbers replace `{0}` to `{9}`, and words replace `{a}` to `{z}`, by index. A placeholder without a
     /// value adds nothing.
     ///
-    /// `put_too_many`, `put_position` and functions of `app_commands`, `net_check`, `net_latency` and other crates call it.
+    /// `put_too_many`, `put_late` of `app_commands` and many more call it.
     #[tactic(auto, using(crate::proofs::Longer::longer))]
     pub fn put_template(&mut self, template: &str, numbers: &[u64], words: &[&str])
         ensures { IsLonger self.old self.new }

@@ -13,8 +13,8 @@ const MAX_CHARACTERS: usize = 60;
 /// Largest number of items shown of an array.
 const MAX_ITEMS: usize = 16;
 
-/// Writes `template` with `number` in place of `{0}` and `word` in place of `{a}`. The template may use only one of them. Many functions of
-/// `bridge_text` and `show_explain` call it.
+/// Writes `template` with `number` in place of `{0}` and `word` in place of `{a}`. The template may use only one of them. `put_place`,
+/// `put_unknown_option` of `show_explain` and many more call it.
 pub fn fill_with_word(said: &mut Said, template: &str, number: u64, word: &str) {
     said.put_template(template, &[number], &[word]);
 }
@@ -27,7 +27,7 @@ fn shown_prefix(text: &str) -> &str {
     }
 }
 
-/// Writes a text in quotes, cut after 60 characters. `put_key`, `put_item` and functions of `net_check` and `show_explain` call it.
+/// Writes a text in quotes, cut after 60 characters. `put_key`, `explain_plan_path` of `net_check` and 4 more call it.
 pub fn put_text(said: &mut Said, text: &str) {
     let front = shown_prefix(text);
     said.put_quoted(front);
@@ -37,7 +37,7 @@ pub fn put_text(said: &mut Said, text: &str) {
 }
 
 /// Writes a key in backquotes. A key that is long or needs quotes in TOML is written as a quoted text, cut after 60 characters.
-/// `put_stray_section` and functions of `show_explain` call it.
+/// `put_stray_section`, `put_misplaced_entry_key` of `show_explain` and 3 more call it.
 pub fn put_key(said: &mut Said, key: &str) {
     let mut is_plain = true;
     for octet in key.as_bytes() {
@@ -102,8 +102,8 @@ pub fn put_value(said: &mut Said, value: &Value) {
     }
 }
 
-/// Writes a sentence: `template` with `number` and `name`, then the value, or `word` if the value is missing. `put_no_list` and functions
-/// of `show_explain` call it.
+/// Writes a sentence: `template` with `number` and `name`, then the value, or `word` if the value is missing. `put_no_list`,
+/// `put_entry_flaws` of `show_explain` and 4 more call it.
 pub fn put_value_sentence(
     said: &mut Said,
     template: &str,

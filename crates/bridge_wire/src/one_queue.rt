@@ -23,7 +23,7 @@ use std::alloc::Allocator;
 /// Starts and writes all frames that are due before `time` ns, when the frame ahead arrived. Then offers the frame ahead to the queue, or
 /// only counts it if its header can't be read.
 ///
-/// `process_frame` calls it.
+/// Fails with `Write` if the sink fails. `process_frame` calls it.
 #[inline(always)]
 fn offer_frame<W: ByteSink, A: Allocator + Copy>(
     speed: Speed,
@@ -74,7 +74,8 @@ fn offer_frame<W: ByteSink, A: Allocator + Copy>(
 /// Writes frames that start before `time` ns, then offers the frame ahead, which arrived at `time`, to the queue; malformed frames are only
 /// counted.
 ///
-/// Reads the next record and returns its arrival time in ns, or `None` at the capture's end. `send_all` calls it.
+/// Then reads the next record and returns its arrival time in ns. Returns `None` at the capture's end. Fails if the sink or the next record
+/// fails. `send_all` calls it.
 #[inline(always)]
 fn process_frame<R: ByteSource, W: ByteSink, A: Allocator + Copy>(
     speed: Speed,

@@ -37,7 +37,7 @@ pub struct OpenQueue<A: Allocator + Copy> {
     earliest: u64,
     /// Number of offers so far.
     offered: u64,
-    /// Number of starts so far.
+    /// Number of transmissions that the queue has started.
     started: u64,
     ghost ring: { IsRing (vec_len places) head tail queued },
     ghost short: { All (λ x. x.len ≤ LONGEST_FRAME) (take queued (ring_items head places.items)) },
@@ -95,7 +95,8 @@ impl<A: Allocator + Copy> OpenQueue<A> {
     }
 
     /// Reads the next record of a capture into the place ahead, and returns its arrival time in ns; `None` at the end of the capture.
-    /// `process_frame` calls it after the frame ahead was offered.
+    ///
+    /// Fails if the record is refused, the source fails or memory runs out. `process_frame` calls it after the frame ahead was offered.
     #[inline(always)]
     pub fn read_ahead<R: ByteSource>(
         &mut self,
@@ -136,7 +137,8 @@ impl<A: Allocator + Copy> OpenQueue<A> {
         &self.places[self.head]
     }
 
-    /// Returns the time in ns of the next start if nothing more is offered; `None` if no frame is queued. `send_due_frames` calls it.
+    /// Returns the time in ns at which the next transmission starts if nothing more is offered; `None` if no frame is queued.
+    /// `send_due_frames` calls it.
     #[inline(always)]
     pub fn next_start(&self) -> Option<u64>
         ensures due { IsNextStartTime (queue_state self.now) result }

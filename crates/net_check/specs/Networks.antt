@@ -91,8 +91,8 @@ RefusesPeriods f plans (fault.Network line) = (e : NetFault) × (first_misfit pl
 RefusesPeriods f plans fault.NoMemory = Unit {0}
 RefusesPeriods f plans e = ⊥
 
--- Holds if the failure is `NoMemory`, or its line names the network's first fault. Without such a fault, the line names the first talker's
--- period that doesn't suit the plans.
+-- Holds if the failure is `NoMemory`, or its line names the network's first fault. If the network has no fault, the
+-- line names the first talker's period that doesn't suit the plans.
 abbrev pub RefusesNetwork : {A : Type 0} → file.Network → List (Plan A) → Failure → Type 0
 RefusesNetwork {A} f plans (fault.Network line) = (n : NetworkParts A) × IsNetworkOfFile f plans n
     × (((e : NetworkFault) × (first_fault n ≡ Some e) × (string_bytes line ≡ network_fault_line f.bridges e))

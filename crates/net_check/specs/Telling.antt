@@ -102,11 +102,11 @@ abbrev pub filter_sdu : {A : Type 0} → Option (Plan A) → ℕ → Option ℕ
 filter_sdu None n = None
 filter_sdu (Some p) n = sdu_if_any (lookup (nat_eq n) p.filters)
 
--- The limit in octets (`max_sdu`) of a hop's filter; `None` without its plan, its filter or a limit.
+-- The limit in octets (`max_sdu`) of a hop's filter; `None` if the plan, the filter or the limit is missing.
 abbrev pub hop_sdu : {A : Type 0} → List (Plan A) → ℕ × ℕ → Option ℕ
 hop_sdu plans h = filter_sdu (slice_get plans h.0) h.1
 
--- True if limit `b` is less than limit `a`; false without one of them.
+-- True if limit `b` is less than limit `a`; false if one of them is missing.
 abbrev pub is_smaller_limit : Option ℕ → Option ℕ → Bool
 is_smaller_limit (Some a) (Some b) = nat_lt b a
 is_smaller_limit a b = false

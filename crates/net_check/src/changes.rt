@@ -38,8 +38,8 @@ pub(crate) fn changed_phases(sends: &[SendShift], stream: usize, talker: &Talker
     phases
 }
 
-/// Returns the index in `sends` of the stream's new phases, or the length of `sends` without any. `put_phases` replaces the item with this
-/// index.
+/// Returns the index in `sends` of the item for stream `stream`, or the length of `sends` if it has no such item. `put_phases` then
+/// replaces the item or appends one.
 fn index_of_stream(sends: &[SendShift], stream: usize) -> usize {
     let mut index = 0usize;
     for send in sends {
@@ -51,8 +51,8 @@ fn index_of_stream(sends: &[SendShift], stream: usize) -> usize {
     index
 }
 
-/// Returns the index in `shifts` of the shift of port `port` of bridge `bridge`, or the length of `shifts` without one. `put_shift`
-/// replaces the item with this index.
+/// Returns the index in `shifts` of the item for port `port` of bridge `bridge`, or the length of `shifts` if it has no such item.
+/// `put_shift` then replaces the item or appends one.
 fn index_of_port(shifts: &[ListShift], bridge: u16, port: u8) -> usize {
     let mut index = 0usize;
     for shift in shifts {
@@ -64,8 +64,8 @@ fn index_of_port(shifts: &[ListShift], bridge: u16, port: u8) -> usize {
     index
 }
 
-/// Sets the new phases of the talker of stream `stream` in `changes`; earlier phases are replaced. `relieve_talker` calls it. Returns
-/// `None` if memory runs out.
+/// Sets the phases of the talker of stream `stream` in `changes`: replaces the stream's item or appends one. Returns `None` if memory runs
+/// out. `relieve_talker` calls it.
 pub(crate) fn put_phases(changes: &mut Changes, stream: usize, phases: Phases) -> Option<()> {
     let index = index_of_stream(&changes.sends, stream);
     let send = SendShift { stream, phases };
@@ -78,8 +78,9 @@ pub(crate) fn put_phases(changes: &mut Changes, stream: usize, phases: Phases) -
     }
 }
 
-/// Sets the shift of the list at the hop's port in `changes` to `earlier` ns, and replaces the port's former shift. `pass` is the pass in
-/// which a late stream uses the port, or `PASSES`.
+/// Sets the shift of the list at the hop's port in `changes` to `earlier` ns: replaces the port's item or appends one.
+///
+/// `pass` is the pass in which a late stream uses the port, or `PASSES`.
 ///
 /// Returns `None` if memory runs out. `relieve_list` and `keep_ports` call it.
 pub(crate) fn put_shift(

@@ -23,7 +23,7 @@ const PASSES: u32 = 8;
 /// Largest number of changes that `relieve_stream` makes for one stream in one pass.
 const CHANGES: u32 = 16;
 
-/// Returns changes after which each stream that the search may change (`is_searched`) meets its deadline. Returns `None` if some such
+/// Returns changes after which each stream that the search may change (`is_searched`) meets its deadline. Returns `None` if some searched
 /// stream was late in each of `PASSES` passes, or if memory runs out.
 ///
 /// `explain_network_streams` calls it.
@@ -113,8 +113,8 @@ fn is_searched(
     course.passes && can_meet(alloc, &route, stream.deadline())
 }
 
-/// Returns whether a stream would meet its deadline if no frame waited for its transmission. Returns true without a deadline, and false if
-/// the times are unknown. `is_searched` calls it.
+/// Returns whether a stream would meet its deadline, in ns, if no frame waited for its transmission. Returns true without a deadline, and
+/// false if the times are unknown. `is_searched` calls it.
 fn can_meet(alloc: Global, route: &StreamRoute<'_>, deadline: Option<u64>) -> bool
     requires placed { All (λ v. All HasValidPort v.items) route.now.bounds.now }
     requires talker { IsTalker route.now.talker }

@@ -96,8 +96,10 @@ struct QueueTimes {
     worst: u64,
 }
 
-/// Returns the time in ns by which the list of port `port` of bridge `bridge` begins earlier, by its last item in `shifts`. Returns 0
-/// without such an item. `relieve_list`, `keep_ports` and others call it.
+/// Returns the time in ns by which the list of port `port` of bridge `bridge` begins earlier, by its last item in `shifts`. Returns 0 if
+/// `shifts` has no item for the port.
+///
+/// `relieve_list`, `keep_ports` and 2 more call it.
 pub(crate) fn shift_of_port(shifts: &[ListShift], bridge: u16, port: u8) -> u64 {
     let mut earlier = 0;
     for shift in shifts {

@@ -110,7 +110,7 @@ fn put_twice(
     said.put("and so is `one`.\nA link joins two ports: correct one of its ends.\n");
 }
 
-/// Returns the speed in Mb/s of the port at this end of a link, or 0 if the plan has no such port. `put_speeds` calls it.
+/// Returns the speed in Mb/s of the port at this end of a link, or 0 if the plan lacks the port. `put_speeds` calls it.
 fn port_mbps(plans: &[Accepted<Global>], end: BridgePort) -> u64 {
     let Some(accepted) = plans.get(end.bridge as usize) else {
         return 0;

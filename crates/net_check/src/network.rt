@@ -1,5 +1,5 @@
-//! The command `net check`: reads a network file and its plans, checks the network, and returns its lines. Other commands for networks read
-//! networks by the same functions.
+//! The command `net check`: reads a network file and its plans, checks the network, and returns the lines to print. Other commands for
+//! networks read networks by the same functions.
 ghost use Rattle.std.specs.Prelude.{◌≡◌, ◌≤◌, ℕ, All, List, None, Ok, Vec, length, map, IfOk, IfErr, OnOk, string_bytes};
 ghost use Rattle.bridge_config.specs.Model.{Plan};
 ghost use Rattle.net_file.specs.Document.{network_of_text};
@@ -242,7 +242,7 @@ fn is_absolute(path: &str) -> bool
 /// Returns the path of the plan file `file`, which a network file at `path` names. A relative path counts from the network file's folder,
 /// so both can be moved together.
 ///
-/// `explain_plan_path`, `network_paths`, `read_plan` and functions of `app_networks` call it.
+/// `explain_plan_path`, `plan_path` of `app_networks` and 2 more call it.
 pub fn sibling_path(alloc: Global, path: &str, file: &str) -> Result<String, NoMemory>
     ensures { IfOk result (λ place. string_bytes place ≡ beside path.now file.now) }
 {
@@ -293,7 +293,8 @@ fn check_bridge_plan(alloc: Global, name: &str, text: &[u8]) -> Result<Accepted<
 }
 
 /// Reads the plan of a bridge of the network file at `path`. The plan's path is absolute, or relative to the folder of the network file.
-/// `push_plan` calls it.
+///
+/// Fails if the plan can't be read or is refused. `push_plan` calls it.
 pub(crate) fn read_plan<F: ReadFiles>(
     alloc: Global,
     files: &mut F,
@@ -386,7 +387,7 @@ pub struct NetworkOutput {
     pub kept: bool,
 }
 
-/// Returns the output of `net check` for an accepted network: its lines and its warnings. `network_job` calls it.
+/// Returns the output of `net check` for an accepted network: lines and warnings. `network_job` calls it.
 fn describe_network<A: Allocator + Copy>(
     alloc: A,
     heap: Global,

@@ -146,8 +146,8 @@ pub(crate) fn phases_after_link(done: Phases, delay: u64, period: u64) -> (Phase
     (phases, whole)
 }
 
-/// Returns the traffic of a talker if its frames arrive in the phases `from` to `to`. Returns `None` if the phases don't lie in one period.
-/// `hop_traffic` and `times_in_queue` call it.
+/// Returns the traffic of a talker if its frames arrive in the phases `from` to `to`, in ns. Returns `None` if the phases don't lie in one
+/// period. `hop_traffic` and `times_in_queue` call it.
 pub(crate) fn traffic_with_phases(talker: &Talker, from: u64, to: u64) -> Option<Traffic>
     requires { IsTalker talker.now }
     ensures { IfSome result IsTraffic }
@@ -164,8 +164,8 @@ pub(crate) fn traffic_with_phases(talker: &Talker, from: u64, to: u64) -> Option
     })
 }
 
-/// Returns the delay in ns of the first link between the bridges of hop `place` and of the hop before it. Returns `None` without such a
-/// link. `hop_traffic` and `is_chain` call it.
+/// Returns the delay in ns of the first link between the bridges of hop `place` and of the hop before it. Returns `None` if no link joins
+/// both bridges. `hop_traffic` and `is_chain` call it.
 fn link_delay(links: &[Link], hops: &[StreamHop], place: usize) -> Option<u64> {
     let hop = hops.get(place)?.bridge;
     let before = hops.get(place.checked_sub(1)?)?.bridge;
@@ -269,8 +269,10 @@ fn put_condition(
     put_reason(said, plan, filter, traffic, class);
 }
 
-/// Returns the first port of a hop's bridge on which frames of other devices may get the hop's handle, or `None`. `is_first` is true for
-/// the stream's first hop. `put_hop_reason` calls it.
+/// Returns the first port of a hop's bridge on which frames of other devices may get the hop's handle. `None` if they can get it on no
+/// port.
+///
+/// `is_first` is true for the stream's first hop. `put_hop_reason` calls it.
 fn port_of_others(
     links: &[Link],
     is_first: bool,

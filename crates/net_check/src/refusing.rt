@@ -116,7 +116,7 @@ fn put_sender<A: Allocator>(text: &mut TextBuilder<A>, filter: &Option<u32>, fro
 }
 
 /// Returns the name of the bridge with index `bridge`, from 0, or an empty text if the bridge is missing. `put_queue_line`,
-/// `put_costliest_hop` and others call it.
+/// `put_costliest_hop` and 9 more call it.
 pub(crate) fn bridge_name<'a, A: Allocator + Copy>(
     bridges: &'a [BridgeRow<A>],
     bridge: u16,

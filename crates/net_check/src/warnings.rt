@@ -213,8 +213,8 @@ impl<'a, A: Allocator + Copy> Named<'a, A> {
     }
 }
 
-/// Returns whether a hop's filter has a reachable queue. `bounds` has an item for each reachable queue; without one, the hop's frames can't
-/// leave the bridge. `push_nowhere` calls it.
+/// Returns whether a hop's filter has a reachable queue. `bounds` has an item for each reachable queue; if the filter has none, the hop's
+/// frames can't leave the bridge. `push_nowhere` calls it.
 fn has_queue<A: Allocator + Copy>(bounds: &[Vec<QueueBound, A>], hop: StreamHop) -> bool
     ensures { result ≡ spec.has_queue bounds.now hop }
 {

@@ -68,7 +68,7 @@ abbrev pub limit_longest : FrameLimit → ℕ
 limit_longest (limit.Rate burst rate) = min LONGEST_FRAME (burst - 4)
 limit_longest (limit.Count frames period) = LONGEST_FRAME
 
--- Reads the row with a limit and with number `index` from its table, or gives its first fault.
+-- Reads limited row `index` from its table, or gives the row's first fault.
 unfoldable pub read_limited_row : ℕ → Members → Result LimitedRow NetFault
 read_limited_row index members = do
   keys ← provided (has_limited_keys members) (fault.UnknownKey section.Traffic index)

@@ -51,7 +51,7 @@ abbrev pub bridge_index_from_start : ℕ → List Bridge → List ℕ → Option
 bridge_index_from_start k [] name = None
 bridge_index_from_start k (b ∷ bs) name = if bytes_eq b.name name then Some k else bridge_index_from_start (suc k) bs name
 
--- The index of the first bridge with the name, from 0, or `None`.
+-- The index of the first bridge with the given name, from 0. `None` if no bridge has the name.
 abbrev pub bridge_index : List Bridge → List ℕ → Option ℕ
 bridge_index bridges name = bridge_index_from_start 0 bridges name
 
@@ -64,7 +64,7 @@ abbrev pub pair_with_number : Option ℕ → ℕ → Result (ℕ × ℕ) Flaw
 pair_with_number None n = Err flaw.Unresolved
 pair_with_number (Some k) n = Ok (k, n)
 
--- The bridge's index and the number of an optional numbered name, or `OutOfRange` without such a name.
+-- The bridge's index and the number of an optional numbered name, or `OutOfRange` if the name is missing.
 abbrev pub resolve_if_named : List Bridge → Option NumberedName → Result (ℕ × ℕ) Flaw
 resolve_if_named bridges None = Err flaw.OutOfRange
 resolve_if_named bridges (Some x) = pair_with_number (bridge_index bridges x.name) x.number

@@ -26,7 +26,7 @@ no_duplicate stands e = provided (not stands) e
 
 -- BRIDGE
 
--- Reads bridge `index` from its table, or gives its first fault. No bridge in `earlier` may have its name.
+-- Reads bridge `index` from its table, or gives the table's first fault. No bridge in `earlier` may have the same name.
 unfoldable pub read_bridge : List Bridge → ℕ → Members → Result Bridge NetFault
 read_bridge earlier index members =
     let at : NetField → NetKeyLocation = λ key. record { section = section.Bridge; index = index; field = key } in do
@@ -43,7 +43,7 @@ unfoldable pub port_text : List Bridge → Data → Result (ℕ × ℕ) Flaw
 port_text bridges (string s) = resolve_numbered_name bridges 1 16 s
 port_text bridges _ = Err flaw.WrongKind
 
--- Reads link `index` from its table, or gives its first fault. Its ends must be ports of `bridges`.
+-- Reads link `index` from its table, or gives the table's first fault. The link's ends must be ports of `bridges`.
 unfoldable pub read_link : List Bridge → ℕ → Members → Result LinkRow NetFault
 read_link bridges index members =
     let at : NetField → NetKeyLocation = λ key. record { section = section.Link; index = index; field = key } in do
@@ -126,8 +126,8 @@ read_talker index members =
 abbrev pub read_optional_talker : ℕ → Members → Result (Option Talker) NetFault
 read_optional_talker index members = if has_any_key talker_keys members then (read_talker index members >>= λ t. Ok (Some t)) else Ok None
 
--- Reads stream `index` from its table, or gives its first fault. Its hops are at `bridges`, and no stream in `earlier`
--- may have its name.
+-- Reads stream `index` from its table, or gives the table's first fault. The hops are at `bridges`, and no stream in
+-- `earlier` may have the same name.
 unfoldable pub read_stream : List Bridge → List Stream → ℕ → Members → Result Stream NetFault
 read_stream bridges earlier index members =
     let at : NetField → NetKeyLocation = λ key. record { section = section.Stream; index = index; field = key } in do

@@ -20,12 +20,12 @@ use Rattle.net_file.specs.declared.traffic_row.TalkerRow.{TalkerRow}
 use Rattle.net_file.specs.declared.traffic_row.TalkerRow.TheVariants as row
 use Rattle.net_file.specs.LimitedRows.{IsLimitedRow, is_limited, read_limited_row}
 
--- Keys that the table of a row with periodic traffic may have.
+-- Keys that the table of a periodic row may have.
 abbrev pub row_keys : List NetField
 row_keys = field.Filter ∷ field.Period ∷ field.From ∷ field.To ∷ field.Least ∷ field.Longest ∷ field.Deadline ∷ []
 
--- Reads row `index` with periodic traffic, or gives its first fault. If the first phase isn't less than the period, the fault names the
--- period.
+-- Reads periodic row `index`, or gives the row's first fault. If the first phase isn't less than the period, the fault
+-- names the period.
 unfoldable pub read_row : ℕ → Members → Result TrafficRow NetFault
 read_row index members =
     let at : NetField → NetKeyLocation = λ key. record { section = section.Traffic; index = index; field = key } in do
@@ -49,7 +49,7 @@ abbrev pub row_filter : TalkerRow → ℕ
 row_filter (row.Periodic r) = r.filter
 row_filter (row.Limited r) = r.filter
 
--- Reads row `index`: with a limit if the table has one of the limit's keys, otherwise with periodic traffic.
+-- Reads row `index`: a limited row if the table has one of the limit's keys, otherwise a periodic row.
 abbrev pub read_talker_row : ℕ → Members → Result TalkerRow NetFault
 read_talker_row index members =
     if is_limited members then (read_limited_row index members >>= λ r. Ok (row.Limited r))

@@ -70,8 +70,8 @@ fn bridge_key(index: u32, field: NetField) -> NetKeyLocation
     }
 }
 
-/// Reads bridge `index`, from 1, from its table, or returns its first fault. A bridge in `earlier` with its name is the fault `Duplicate`.
-/// `read` calls it.
+/// Reads bridge `index`, from 1, from its table, or returns the table's first fault. A bridge in `earlier` with the same name is the fault
+/// `Duplicate`. `read` calls it.
 #[tactic(auto, unfolding(crate::specs::Sections::read_bridge))]
 fn read_bridge<A: Allocator + Copy>(
     alloc: A,

@@ -102,7 +102,7 @@ pub const TRAFFIC_KEYS: [NetField; 10] = [
     NetField::Deadline,
 ];
 
-/// Keys that the table of a row with periodic traffic may have.
+/// Keys that the table of a periodic row may have.
 pub const PERIODIC_ROW_KEYS: [NetField; 7] = [
     NetField::Filter,
     NetField::Period,

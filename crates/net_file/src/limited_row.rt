@@ -51,8 +51,7 @@ pub struct LimitedRow {
     pub deadline: Option<u64>,
 }
 
-/// Returns whether a row's table has a key that limits the frames (`LIMIT_KEYS`). Otherwise `read_talker_row` reads a row with periodic
-/// traffic.
+/// Returns whether a row's table has a key that limits the frames (`LIMIT_KEYS`). Otherwise `read_talker_row` reads a periodic row.
 pub(crate) fn is_limited(table: &Table) -> bool
     ensures { result ≡ spec.is_limited (table_view table.now) }
 {
@@ -95,7 +94,9 @@ fn read_count(index: u32, table: &Table) -> Result<FrameLimit, NetFault>
     Ok(FrameLimit::Count { frames, period })
 }
 
-/// Reads the limit of row `index`: burst and rate if the table has one of these keys, otherwise a number of frames in any period.
+/// Reads the limit of row `index`: burst and rate if the table has one of these keys, otherwise a number of frames in any period. If the
+/// limit is refused, returns its fault.
+///
 /// `read_limited_row` calls it.
 fn read_limit(index: u32, table: &Table) -> Result<FrameLimit, NetFault>
     ensures reads { Gives result (spec.read_limit index (table_view table.now)) }
@@ -121,7 +122,8 @@ fn limit_longest(limit: FrameLimit) -> u64
     }
 }
 
-/// Reads row `index`, from 1, with a limit of its frames from its table, or returns its first fault. `read_talker_row` calls it.
+/// Reads traffic row `index`, from 1, from its table: a row that limits the filter's frames. Returns the row's first fault if it has one.
+/// `read_talker_row` calls it.
 #[tactic(auto, unfolding(crate::specs::LimitedRows::read_limited_row))]
 pub(crate) fn read_limited_row(index: u32, table: &Table) -> Result<LimitedRow, NetFault>
     ensures reads { Gives result (spec.read_limited_row index (table_view table.now)) }

@@ -69,8 +69,8 @@ fn link_key(index: u32, field: NetField) -> NetKeyLocation
     }
 }
 
-/// Reads link `index`, from 1, from its table, or returns its first fault. The ends must be ports of `bridges`; `delay` may be absent.
-/// `read` calls it.
+/// Reads link `index`, from 1, from its table, or returns the table's first fault. The ends must be ports of `bridges`; `delay` may be
+/// absent. `read` calls it.
 #[tactic(auto, unfolding(crate::specs::Sections::read_link))]
 fn read_link<A: Allocator + Copy>(
     bridges: &[BridgeRow<A>],

@@ -134,7 +134,7 @@ fn read_sections<A: Allocator + Copy>(
 /// Reads the TOML document of a network or traffic file. `heap` holds the document. The fault is `TooLong` for a text above 1,048,576
 /// octets, and `Syntax` for a text that isn't TOML in UTF-8.
 ///
-/// `parse_network`, `parse_traffic` and functions of `net_check` and `net_latency` call it.
+/// `parse_network`, `parse_traffic`, `explain_network` of `net_check` and `explain_traffic` of `net_latency` call it.
 #[tactic(auto, unfolding(crate::specs::Document::read_document))]
 pub fn read_document(heap: Global, text: &[u8]) -> Result<Table, NetFault>
     ensures { GivesAs table_view result (doc.read_document text.now) }

@@ -15,7 +15,7 @@ use toml::{Table, Value};
 /// Reads the value of the required key at `place` from its table. `kind` defines the allowed values. Returns the fault `Missing` if the key
 /// is absent. Allocates no memory.
 ///
-/// `read_rate`, `read_count` and others call it.
+/// `read_rate`, `read_count` and 4 more call it.
 #[tactic(auto, unfolding(crate::specs::Keys::read_required))]
 pub fn read_required<K: ValueKind>(
     table: &Table,
@@ -32,7 +32,7 @@ pub fn read_required<K: ValueKind>(
 /// Reads the value of the optional key at `place` from its table. `kind` defines the allowed values. Returns `None` if the key is absent.
 /// Allocates no memory.
 ///
-/// `read_limited_row`, `read_deadline` and `read_row` call it.
+/// If the value is refused, returns its fault. `read_limited_row`, `read_deadline` and `read_row` call it.
 #[tactic(auto, unfolding(crate::specs::Keys::read_optional))]
 pub fn read_optional<K: ValueKind>(
     table: &Table,
@@ -47,7 +47,9 @@ pub fn read_optional<K: ValueKind>(
 }
 
 /// Reads the value of the optional key at `place` from its table. `kind` defines the allowed values. Returns `default` if the key is
-/// absent. Allocates no memory. `read_link` calls it.
+/// absent. Allocates no memory. If the value is refused, returns its fault.
+///
+/// `read_link` calls it.
 #[tactic(auto, unfolding(crate::specs::Keys::read_or_default))]
 pub(crate) fn read_or_default<K: ValueKind>(
     default: K::Out,
@@ -80,7 +82,9 @@ fn text_value<'a>(place: NetKeyLocation, value: Option<&'a Value>) -> Result<&'a
     }
 }
 
-/// Reads the text of the required key at `place` from its table. The result borrows from the table, so no memory is allocated.
+/// Reads the text of the required key at `place` from its table. The result borrows from the table, so no memory is allocated. If the value
+/// is missing or refused, returns its fault.
+///
 /// `read_bridge` calls it.
 #[tactic(auto, unfolding(crate::specs::Keys::read_required))]
 pub(crate) fn read_text<'a>(table: &'a Table, place: NetKeyLocation) -> Result<&'a str, NetFault>
@@ -116,7 +120,8 @@ fn name_value<'a>(place: NetKeyLocation, value: Option<&'a Value>) -> Result<&'a
 }
 
 /// Reads the required key at `place`, whose value must be a name: 1 to 32 letters, digits, `-` and `_`. The result borrows from the table.
-/// `read_bridge` and `read_stream` call it.
+///
+/// If the value is missing or refused, returns its fault. `read_bridge` and `read_stream` call it.
 #[tactic(auto, unfolding(crate::specs::Keys::read_required))]
 pub(crate) fn read_name<'a>(table: &'a Table, place: NetKeyLocation) -> Result<&'a str, NetFault>
     ensures reads { GivesAs (λ x. x.now) result (spec.read_required place spec.name_text (table_view table.now)) }

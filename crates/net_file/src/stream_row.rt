@@ -57,8 +57,8 @@ impl<A: Allocator + Copy> StreamRow<A> {
         self.name.as_str()
     }
 
-    /// Returns the hops from talker to listener: each has the index of its bridge, from 0, and its filter number. Functions of
-    /// `app_networks`, `net_check`, `net_latency` and other crates call it.
+    /// Returns the hops from talker to listener: each hop has a bridge index, from 0, and a filter number. Functions of `app_networks`,
+    /// `net_check`, `net_latency` and other crates call it.
     pub fn hops(&self) -> &[(u16, u32)]
         ensures { result.now ≡ self.now.hops }
     {
@@ -201,7 +201,9 @@ fn resolve_hops<A: Allocator + Copy>(
     Ok(hops)
 }
 
-/// Returns the hops in `value`, the value of the key `hops`. Tests the kind, number and form of all items before it looks up any bridge.
+/// Returns the hops in `value`, the value of the key `hops`. Tests the kind, number and form of all items before it looks up any bridge. If
+/// the hops are refused, returns their fault.
+///
 /// `read_stream` calls it.
 fn hops_value<A: Allocator + Copy>(
     alloc: A,
@@ -246,8 +248,8 @@ fn stream_key(index: u32, field: NetField) -> NetKeyLocation
     }
 }
 
-/// Reads the key `deadline` of stream `index`: the largest allowed delay in ns. Returns `None` if the key is absent. `read_stream` calls
-/// it.
+/// Reads the key `deadline` of stream `index`: the largest allowed delay in ns. Returns `None` if the key is absent. If the deadline is
+/// refused, returns its fault. `read_stream` calls it.
 fn read_deadline(index: u32, table: &Table) -> Result<Option<u64>, NetFault>
     ensures reads { Gives result (reading.read_optional
         (record { section = the_section.Stream; index = index; field = the_field.Deadline })
@@ -257,8 +259,8 @@ fn read_deadline(index: u32, table: &Table) -> Result<Option<u64>, NetFault>
     read_optional(table, stream_key(index, NetField::Deadline), &DEADLINE)
 }
 
-/// Reads stream `index`, from 1, from its table, or returns its first fault. Hops must be filters of `bridges`. If an earlier stream has
-/// the same name, the fault is `Duplicate`. `read` calls it.
+/// Reads stream `index`, from 1, from its table, or returns the table's first fault. Hops must be filters of `bridges`. If an earlier
+/// stream has the same name, the fault is `Duplicate`. `read` calls it.
 #[tactic(auto, unfolding(crate::specs::Sections::read_stream))]
 fn read_stream<A: Allocator + Copy>(
     alloc: A,

@@ -41,7 +41,7 @@ fn is_present(value: Option<&Value>) -> bool
 }
 
 /// Returns whether a table has at least one of these keys. A stream with such a key has a talker, and a traffic row a limit. `is_limited`,
-/// `has_limited_keys` and others call it.
+/// `has_limited_keys` and 2 more call it.
 pub(crate) fn has_any_key(table: &Table, keys: &[NetField]) -> bool
     ensures { result ≡ sections.has_any_key keys.now (table_view table.now) }
 {
@@ -95,8 +95,8 @@ fn read_talker(index: u32, table: &Table) -> Result<Talker, NetFault>
     })
 }
 
-/// Reads the talker of stream `index`, from 1. Returns `None` if the stream's table has no key of a talker. Allocates no memory.
-/// `read_stream` calls it.
+/// Reads the talker of stream `index`, from 1. Returns `None` if the stream's table has no key of a talker. Allocates no memory. If the
+/// talker is refused, returns its fault. `read_stream` calls it.
 pub(crate) fn read_optional_talker(index: u32, table: &Table) -> Result<Option<Talker>, NetFault>
     ensures reads { Gives result (sections.read_optional_talker index (table_view table.now)) }
     ensures talker { IfOk result (λ t. ForSome t IsTalker) }

@@ -16,7 +16,8 @@ use bridge_schema::{NUMBER, NumberRange, SectionReader, has_only};
 use std::alloc::Allocator;
 use toml::Table;
 
-/// A row of a traffic file with periodic traffic of one filter, and an optional deadline. The filter must be protected in the plan.
+/// A periodic row of a traffic file: the periodic traffic of one filter, and an optional deadline. The filter must be protected in the
+/// plan.
 #[derive(Clone, Copy)]
 pub struct TrafficRow {
     /// Number of the filter whose frames the row describes.
@@ -48,7 +49,7 @@ impl TalkerRow {
     }
 }
 
-/// Returns the location of a key of row `index`, from 1, for a fault. `read_rate`, `read_count` and others call it.
+/// Returns the location of a key of row `index`, from 1, for a fault. `read_rate`, `read_count` and 2 more call it.
 pub(crate) fn row_key(index: u32, field: NetField) -> NetKeyLocation
     ensures { result ≡ record { section = the_section.Traffic; index = index; field = field } }
 {
@@ -59,7 +60,7 @@ pub(crate) fn row_key(index: u32, field: NetField) -> NetKeyLocation
     }
 }
 
-/// Reads row `index`, from 1, with periodic traffic from its table, or returns its first fault. `read_talker_row` calls it.
+/// Reads periodic row `index`, from 1, from its table, or returns the row's first fault. `read_talker_row` calls it.
 #[tactic(auto, unfolding(crate::specs::TrafficRows::read_row))]
 fn read_row(index: u32, table: &Table) -> Result<TrafficRow, NetFault>
     ensures reads { Gives result (spec.read_row index (table_view table.now)) }
@@ -103,8 +104,10 @@ fn read_row(index: u32, table: &Table) -> Result<TrafficRow, NetFault>
     })
 }
 
-/// Reads row `index`, from 1, from its table: with a limit if it has one of a limit's keys, otherwise with periodic traffic. `next_row`
-/// calls it, and compares the row with earlier rows.
+/// Reads row `index`, from 1, from its table, or returns the row's first fault. The row is limited if the table has one of a limit's keys,
+/// otherwise periodic.
+///
+/// `next_row` calls it, and compares the row with earlier rows.
 fn read_talker_row(index: u32, table: &Table) -> Result<TalkerRow, NetFault>
     ensures reads { Gives result (spec.read_talker_row index (table_view table.now)) }
     ensures row { IfOk result IsTalkerRow }

@@ -11,7 +11,7 @@ use Rattle.net_latency.specs.declared.next_hop.NextHop.{NextHop}
 abbrev pub sender_of_far_end : FarEnd → Sender
 sender_of_far_end x = record { from = end_value x.end; delay = x.delay }
 
--- The first of these hops at bridge `b`, or `None`.
+-- The first of these hops at bridge `b`. `None` if no hop is at this bridge.
 abbrev pub hop_at_bridge : List StreamHop → ℕ → Option StreamHop
 hop_at_bridge [] b = None
 hop_at_bridge (h ∷ hs) b = if nat_eq h.bridge b then Some h else hop_at_bridge hs b

@@ -74,7 +74,7 @@ pub record HasHopTiming {A : Type 0} (leg : RouteHop A) (a : HopArrival) (x : Ti
   pub timing : IsTiming leg.plan leg.filter leg.port leg.copy.class a.traffic x
   pub phases : x.phases ≡ Some done
 
--- Holds if a route has the delays `r` for arrival `a` at its first hop, and the phases `done` at its last hop. The flag
+-- Holds if a route has the delays `r` for arrival `a` at the first hop, and the phases `done` at the last hop. The flag
 -- `passes` isn't determined.
 abbrev pub IsRouteLatency : {A : Type 0} → ℕ → HopArrival → RouteHop A → List (ℕ × RouteHop A) → StreamLatency → Phases → Type 0
 IsRouteLatency from a leg [] r done = (x : Timing) × (passes : Bool) × HasHopTiming leg a x done × (r ≡ latency_at_last_queue from a x done passes)
@@ -110,7 +110,7 @@ IsRouteOfStream links hops queues leg (x ∷ more) =
     × (next_hop links hops leg.bridge leg.port ≡ Some (record { hop = stream_hop x.1; delay = x.0 }))
     × IsRouteOfStream links hops queues x.1 more
 
--- Holds if the frame keeps the delays of its route, and these lie within the delays of its stream.
+-- Holds if the frame keeps the delays of its route, and these delays lie within the delays of the stream.
 pub record KeepsStreamLatency {A : Type 0} (t : Traffic) (leg : RouteHop A) (more : List (ℕ × RouteHop A)) (r : StreamLatency) : Type 0 where
   pub figures : StreamLatency
   pub done : Phases

@@ -94,7 +94,8 @@ abbrev pub exit_to_hop : StreamHop → Option HopArrival → Option QueueExit
 exit_to_hop h None = None
 exit_to_hop h (Some a) = Some (stop.Next h a)
 
--- The next step of frames that leave a queue in the phases `done`. They continue to the optional next hop or, without one, end their route.
+-- The next step of frames that leave a queue in the phases `done`. They continue to the optional next hop, or end their
+-- route if there is no next hop.
 abbrev pub exit_over_link : ℕ → HopArrival → Timing → Phases → Bool → Option NextHop → Option QueueExit
 exit_over_link from a x done passes None = Some (stop.Last (latency_at_last_queue from a x done passes))
 exit_over_link from a x done passes (Some o) = exit_to_hop o.hop (next_hop_arrival a x done o.delay passes)

@@ -91,7 +91,8 @@ abbrev pub margin_words : Option ℕ → ℕ → List ℕ
 margin_words None worst = codes ""
 margin_words (Some d) worst = if is_met (Some d) worst then codes " margin " ++ decimal (d - worst) else codes " lacks " ++ decimal (worst - d)
 
--- The line of a stream: its name and word, its delays and bound, and whether it meets its deadline, with the margin.
+-- The `stream` line of a stream: its name and word, its delays and bound, and whether it meets its deadline, with the
+-- margin.
 unfoldable pub stream_line : {A : Type 0} → List (Vec QueueBound A) → List LinkRow → Stream × Option StreamLatency → List ℕ
 stream_line bounds links r =
     codes "stream " ++ (r.0.name ++ (arrival_word (is_passing r.0.talker r.1) r.1 ++ (latency_words r.1 (stream_bound bounds links r.0.hops)

@@ -24,25 +24,27 @@ use Rattle.net_latency.specs.Traffic.{AreRowTimings, row_fault, row_figures, row
 
 -- FAULTS
 
--- The fault of row `index`, which has a limit, compared with the plan: its optional filter is missing or belongs to no group. Otherwise
--- `None`.
+-- The fault of limited row `index` compared with the plan: its filter, optional here, is missing or belongs to no
+-- group. `None` if the filter belongs to a group.
 abbrev pub group_fault : ℕ → Option FilterPlan → Option TrafficFault
 group_fault index None = Some (fault.Text (net.Unresolved (row_key index field.Filter)))
 group_fault index (Some f) = if is_some f.group then None else Some (fault.NotGrouped index)
 
--- The fault of row `index` compared with the plan, or `None`.
+-- The fault of row `index` compared with the plan: of a periodic row by `row_fault`, of a limited row by `group_fault`.
+-- `None` if the row has no fault.
 abbrev pub talker_row_fault : {A : Type 0} → Plan A → ℕ → TalkerRow → Option TrafficFault
 talker_row_fault p index (row.Periodic r) = row_fault p index r
 talker_row_fault p index (row.Limited r) = group_fault index (lookup (nat_eq r.filter) p.filters)
 
--- The first fault of these rows compared with the plan, or `None`. The first row has number `index`.
+-- The first fault of these rows compared with the plan. `None` if no row has a fault. The first row has number `index`.
 abbrev pub first_row_fault : {A : Type 0} → Plan A → ℕ → List TalkerRow → Option TrafficFault
 first_row_fault p index [] = None
 first_row_fault p index (r ∷ rs) = first_option (talker_row_fault p index r) (first_row_fault p (index + 1) rs)
 
 -- DELAYS
 
--- Holds if `xs` has the delays of row `index`: in the queues of its protected filter, or in the shared queues of its filter's group.
+-- Holds if `xs` has the delays of row `index`: in the queues of the row's protected filter, or in the shared queues of
+-- the group.
 abbrev pub AreTimingsOfRow : {A : Type 0} → Plan A → List QueueBound → List SharedQueue → ℕ → TalkerRow → List QueueTiming → Type 0
 AreTimingsOfRow p bounds shared index (row.Periodic r) xs = AreRowTimings p index r bounds xs
 AreTimingsOfRow p bounds shared index (row.Limited r) xs = AreLimitedTimings p index r shared xs

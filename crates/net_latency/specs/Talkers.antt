@@ -38,7 +38,8 @@ abbrev pub suits_hops : {A : Type 0} → List (Plan A) → Option Talker → Lis
 suits_hops plans None hops = true
 suits_hops plans (Some t) hops = list_all (λ (h : ℕ × ℕ). suits_hop (slice_get plans h.0) h.1 t.period) hops
 
--- The fault of the first stream whose period doesn't suit a hop, or `None`. The first stream has number `index`.
+-- The fault of the first stream whose period doesn't suit a hop. `None` if every period suits all hops. The first
+-- stream has number `index`.
 abbrev pub first_misfit : {A : Type 0} → List (Plan A) → ℕ → List Stream → Option NetFault
 first_misfit plans index [] = None
 first_misfit plans index (s ∷ ss) =
@@ -82,7 +83,8 @@ pub record AreStreamLatencies {A : Type 0} (plans : List (Plan A)) (links : List
   pub are_streams : map (λ (r : Stream × Option StreamLatency). r.0) rows ≡ streams
   pub courses : All (λ (r : Stream × Option StreamLatency). IsTalkerLatency plans links bounds r.0.talker (map stream_hop_value r.0.hops) r.1) rows
 
--- Holds if `lines` has the lines of the streams with their delays. `kept` is true if all pass and meet their deadlines.
+-- Holds if `lines` has the `stream` lines of the streams, with their delays. `kept` is true if all pass and meet their
+-- deadlines.
 pub record AreStreamLines {A : Type 0} (plans : List (Plan A)) (links : List Link) (bounds : List (Vec QueueBound A)) (rows : List LinkRow) (streams : List Stream) (lines : List ℕ) (kept : Bool) : Type 0 where
   pub figures : List (Stream × Option StreamLatency)
   pub are_courses : AreStreamLatencies plans links bounds streams figures

@@ -77,8 +77,10 @@ suits p f period =
 abbrev pub row_key : ℕ → NetField → NetKeyLocation
 row_key index key = record { section = section.Traffic; index = index; field = key }
 
--- The fault of row `r` compared with the plan, or `None`. The row has a fault if its optional filter is missing or unprotected, or if its
--- period isn't a multiple of a cycle time.
+-- The fault of periodic row `r` compared with the plan. The row has a fault if its optional filter is missing or
+-- unprotected, or if its period isn't a multiple of a cycle time.
+--
+-- `None` if the row has no fault.
 abbrev pub filter_fault : {A : Type 0} → Plan A → ℕ → TrafficRow → Option FilterPlan → Option TrafficFault
 filter_fault p index r None = Some (fault.Text (net.Unresolved (row_key index field.Filter)))
 filter_fault p index r (Some f) =
@@ -86,7 +88,7 @@ filter_fault p index r (Some f) =
     else if not (suits p f r.traffic.period) then Some (fault.Text (net.OutOfRange (row_key index field.Period)))
     else None
 
--- The fault of row `index`, with periodic traffic, compared with the plan, or `None`.
+-- The fault of periodic row `index` compared with the plan. `None` if the row has no fault.
 abbrev pub row_fault : {A : Type 0} → Plan A → ℕ → TrafficRow → Option TrafficFault
 row_fault p index r = filter_fault p index r (lookup (nat_eq r.filter) p.filters)
 
@@ -139,7 +141,7 @@ AreRowTimings p index r [] xs = xs ≡ []
 AreRowTimings p index r (b ∷ bs) xs =
     IfElse (nat_eq b.filter r.filter) (Begins (IsRowTiming p index r b) (AreRowTimings p index r bs) xs) (AreRowTimings p index r bs xs)
 
--- The results of a row: its delays in each queue, or one `Nowhere` if its filter has no reachable queue.
+-- The results of a row: the delays in each queue, or one `Nowhere` if the row's filter has no reachable queue.
 abbrev pub row_figures : ℕ → ℕ → List QueueTiming → List TrafficFigures
 row_figures row filter [] = figures.Nowhere row filter ∷ []
 row_figures row filter (x ∷ xs) = map figures.Queue (x ∷ xs)

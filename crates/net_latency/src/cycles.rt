@@ -75,7 +75,7 @@ fn traffic_text<'a>(
 }
 
 /// Appends the path of the traffic file, and the position of the key `field` in row `index`, from 1. `explain_grouped_filter`,
-/// `explain_limited_row` and others call it.
+/// `explain_limited_row` and 2 more call it.
 fn put_row_position(
     said: &mut TextBuilder<Global>,
     asked: TrafficText<'_>,
@@ -91,8 +91,8 @@ fn put_row_position(
     put_position(said, row.position(Some(field.key())));
 }
 
-/// Explains the first row that doesn't suit the plan; only this row is in the fault line. Returns `None` without such a row or without
-/// memory. `explain_traffic` calls it.
+/// Explains the first row that doesn't suit the plan; only this row is in the fault line. Returns `None` if every row suits the plan, or if
+/// memory runs out. `explain_traffic` calls it.
 fn explain_rows(
     alloc: Global,
     asked: TrafficText<'_>,
@@ -116,8 +116,8 @@ fn explain_rows(
     None
 }
 
-/// Explains the fault of row `index`, with periodic traffic. Its period isn't a multiple of a cycle time, or its filter is missing, grouped
-/// or unprotected. `explain_rows` calls it.
+/// Explains the fault of periodic row `index`. Its period isn't a multiple of a cycle time, or its filter is missing, grouped or
+/// unprotected. `explain_rows` calls it.
 fn explain_periodic_row(
     alloc: Global,
     asked: TrafficText<'_>,
@@ -136,8 +136,8 @@ fn explain_periodic_row(
     }
 }
 
-/// Explains row `index`, with periodic traffic, whose filter belongs to group `group`. Names the limit that the row can have instead:
-/// `frames` and `period`. `explain_periodic_row` calls it.
+/// Explains periodic row `index`, whose filter belongs to group `group`. Names the limit that the row can have instead: `frames` and
+/// `period`. `explain_periodic_row` calls it.
 fn explain_grouped_filter(
     alloc: Global,
     asked: TrafficText<'_>,
@@ -161,8 +161,8 @@ fn explain_grouped_filter(
     said.finish().ok()
 }
 
-/// Explains row `index`, with a limit of its frames: its filter `number` is missing, protected, or in no group. Lists the grouped filters.
-/// `explain_rows` calls it.
+/// Explains limited row `index`: its filter `number` is missing, protected, or in no group. Lists the grouped filters. `explain_rows` calls
+/// it.
 fn explain_limited_row(
     alloc: Global,
     asked: TrafficText<'_>,
@@ -200,8 +200,8 @@ fn explain_limited_row(
     said.finish().ok()
 }
 
-/// Explains row `index`, with periodic traffic: its filter `number` is missing or unprotected. Lists the protected filters.
-/// `explain_periodic_row` calls it.
+/// Explains periodic row `index`: its filter `number` is missing or unprotected. Lists the protected filters. `explain_periodic_row` calls
+/// it.
 fn explain_unusable_filter(
     alloc: Global,
     asked: TrafficText<'_>,
@@ -248,8 +248,8 @@ struct Cycles<'a> {
 }
 
 impl<'a> Cycles<'a> {
-    /// Appends a sentence with the cycle time `cycle` of gate or port (`what`) `number`, and whether the period is a multiple of this time.
-    /// Updates `common`. `put_gate` and `put_port_cycles` call it.
+    /// Appends a sentence with the cycle time `cycle`, in ns, of gate or port `number`; `what` says which. Says whether the period is a
+    /// multiple of this time. Updates `common`. `put_gate` and `put_port_cycles` call it.
     fn put_cycle(&mut self, said: &mut TextBuilder<Global>, what: &str, number: u32, cycle: u64) {
         let common = self.common;
         self.common = if common == 0 || cycle == 0 {

@@ -164,8 +164,8 @@ fn hop_index(hops: &[StreamHop], hop: StreamHop) -> u64 {
     0
 }
 
-/// Appends which earlier hop has the refused hop's bridge and filter: its number and its stream. Then appends a remedy. `explain_hop_fault`
-/// calls it.
+/// Appends which earlier hop has the refused hop's bridge and filter: the earlier hop's number and stream. Then appends a remedy.
+/// `explain_hop_fault` calls it.
 fn put_twice(
     said: &mut TextBuilder<Global>,
     asked: NetworkText<'_>,

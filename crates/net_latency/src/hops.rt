@@ -7,7 +7,7 @@ use net_model::StreamHop;
 use std::alloc::Allocator;
 
 /// Returns the hops of a network file's stream as hops of `net_model`: pairs become values of `StreamHop`. Checks and computations of
-/// delays need this form. `talker_latency` and functions of `net_check` call it.
+/// delays need this form. `talker_latency`, `is_searched` of `net_check` and 5 more call it.
 pub fn stream_hops<A: Allocator + Copy>(
     alloc: A,
     rows: &[(u16, u32)],

@@ -95,8 +95,10 @@ pub fn route_in_phases<A: Allocator + Copy>()
         → KeepsStreamLatency t leg more r }
 {}
 
-/// If a periodic row prints `passes` and its talker keeps the row, its filter passes each frame (`filter`). Each copy leaves between the
-/// row's phases and within its delays (`queue`). Other talkers may send anything.
+/// If a periodic row prints `passes` and its talker keeps the row, the row's filter passes each frame (`filter`). Each copy leaves between
+/// the row's phases and within its delays (`queue`).
+///
+/// Other talkers may send anything.
 ///
 /// So the word `passes` of `bounds --traffic` is proved.
 pub fn passing_row_is_sent<A: Allocator + Copy>()

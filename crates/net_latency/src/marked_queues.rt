@@ -111,8 +111,10 @@ fn rows_warnings<A: Allocator + Copy>(alloc: A, rows: &[SharedQueue]) -> Result<
     Ok(text)
 }
 
-/// Returns one warning for each shared queue of an accepted plan that may drop copies as full, or that only its capacity bounds. Empty
-/// without such a queue. `plan_warnings` of `app_networks` calls it.
+/// Returns one warning for each shared queue of an accepted plan that may drop copies as full, or that only its capacity bounds. Empty if
+/// no shared queue needs a warning.
+///
+/// `plan_warnings` of `app_networks` calls it.
 pub fn shared_warnings<A: Allocator + Copy>(
     alloc: A,
     accepted: &Accepted<A>,

@@ -79,7 +79,7 @@ pub(crate) fn hop_passes<A: Allocator + Copy>(
 
 /// Returns the delays of a route that ends at a queue with delays `x` and phases `done`.
 ///
-/// Its worst delay is the lesser of two times: the sum of worst delays, and the time from phase `from` to the last of `done`.
+/// The worst delay is the lesser of two: the sum of worst delays, and the time from phase `from` ns to the last of `done`.
 ///
 /// `exit_over_link` calls it.
 fn latency_at_last_queue(
@@ -140,8 +140,10 @@ fn next_hop_arrival(
     })
 }
 
-/// Returns the next step of frames that leave a queue in the phases `done`, to hop `onward` or, for `None`, to the route's end. Returns
-/// `None` if phases lie in two periods. `queue_exit` calls it.
+/// Returns the next step of frames that leave a queue in the phases `done`. They go to hop `onward` or, for `None`, to the route's end.
+/// `from` is a phase in ns.
+///
+/// Returns `None` if phases lie in two periods. `queue_exit` calls it.
 fn exit_over_link(
     from: u64,
     came: &HopArrival,

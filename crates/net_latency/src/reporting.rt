@@ -61,7 +61,8 @@ fn parse_rows<A: Allocator + Copy>(
     }
 }
 
-/// Reads the rows of a traffic file from a reader. `path` names the file in failures. `explain_refusable` and `traffic_job` call it.
+/// Reads the rows of a traffic file from a reader. `path` names the file in failures. Fails if the reader fails or the traffic is refused.
+/// `explain_refusable` and `traffic_job` call it.
 pub(crate) fn read_rows<R: Read + Drop, A: Allocator + Copy>(
     alloc: A,
     heap: Global,

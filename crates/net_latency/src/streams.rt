@@ -24,7 +24,9 @@ use net_model::Network;
 use std::alloc::Allocator;
 
 /// Returns for each plan the least delay bounds of its reachable queues, in the order of `plans`. `net check` computes them once for all
-/// streams. Functions of `app_networks` and `net_check` call it.
+/// streams.
+///
+/// `draw_with_bounds` of `app_networks`, `explain_network_streams` of `net_check` and 3 more call it.
 pub fn all_queue_bounds<A: Allocator + Copy>(
     alloc: A,
     plans: &[Accepted<A>],
@@ -67,8 +69,8 @@ fn filter_bound(filter: u32, rows: &[QueueBound]) -> u64
     greatest
 }
 
-/// Returns the delay bounds of the bridge with index `bridge`. Returns an empty list if the bridge is missing. `hop_bound`, `put_queues`
-/// and functions of `net_check` call it.
+/// Returns the delay bounds of the bridge with index `bridge`. Returns an empty list if the bridge is missing. `hop_bound`, `put_hop_times`
+/// of `net_check` and 3 more call it.
 pub fn bounds_of_bridge<'a, A: Allocator + Copy>(
     bounds: &'a [Vec<QueueBound, A>],
     bridge: u16,
@@ -223,7 +225,7 @@ fn put_course<B: Allocator>(text: &mut TextBuilder<B>, course: Option<StreamLate
     put_delays(text, course.worst, course.best, Some(course.phases));
 }
 
-/// Writes the delays of a stream if they are known, and its bound. `put_stream` calls it.
+/// Writes the delays of a stream if they are known, and its bound in ns. `put_stream` calls it.
 fn put_latency<B: Allocator>(text: &mut TextBuilder<B>, course: Option<StreamLatency>, bound: u128)
     ensures { HasGrown text.old (spec.latency_words course bound) text.new }
 {
@@ -274,7 +276,7 @@ fn is_passing(talker: Option<Talker>, course: Option<StreamLatency>) -> bool
     }
 }
 
-/// Returns whether each frame of a stream passes and meets its deadline. If the delays are unknown, the bound is compared with the
+/// Returns whether each frame of a stream passes and meets the deadline, in ns. If the delays are unknown, the bound is compared with the
 /// deadline. `put_stream` calls it.
 fn is_in_time(
     passes: bool,
@@ -290,13 +292,13 @@ fn is_in_time(
 /// Lines of `net check` about the streams, and whether all streams pass and meet their deadlines.
 #[derive(Drop)]
 pub struct StreamLines<B: Allocator> {
-    /// One line for each stream.
+    /// One `stream` line for each stream.
     pub text: String<B>,
     /// Whether each stream meets its deadline, and each frame of a periodic talker passes.
     pub kept: bool,
 }
 
-/// Writes the line of a stream with its delays and its margin. Returns whether the stream passes and meets its deadline. `stream_lines`
+/// Writes the `stream` line of a stream, with delays and margin. Returns whether the stream passes and meets its deadline. `stream_lines`
 /// calls it.
 fn put_stream<A: Allocator + Copy, B: Allocator>(
     text: &mut TextBuilder<B>,
@@ -331,8 +333,8 @@ fn both(a: bool, b: bool) -> bool
     a && b
 }
 
-/// Returns the lines of all streams of a network, and whether all of them pass and meet their deadlines. `bounds` has the delay bounds of
-/// each bridge. `network_lines` of `net_check` calls it.
+/// Returns the `stream` lines of all streams of a network, and whether all of them pass and meet their deadlines. `bounds` has the delay
+/// bounds of each bridge. `network_lines` of `net_check` calls it.
 pub fn stream_lines<A: Allocator + Copy, B: Allocator + Copy>(
     alloc: A,
     heap: B,

@@ -27,8 +27,8 @@ use net_file::{NetFault, NetField, NetKeyLocation, NetSection, StreamRow, Talker
 use net_model::{Link, StreamHop};
 use std::alloc::Allocator;
 
-/// Returns whether the period is a multiple of each cycle time on the route of filter `filter`'s frames. Returns true if the filter is
-/// missing. `suits_hop` calls it.
+/// Returns whether the period, in ns, is a multiple of each cycle time on the route of filter `filter`'s frames. Returns true if the filter
+/// is missing. `suits_hop` calls it.
 fn suits_filter<A: Allocator + Copy>(plan: &Plan<A>, filter: u32, period: u64) -> bool
     ensures { result ≡ spec.suits_filter plan.now period (lookup (nat_eq filter) plan.now.filters) }
 {
@@ -45,8 +45,8 @@ fn accepted_plan<A: Allocator + Copy>(plans: &[Accepted<A>], bridge: u16) -> Opt
     plans.get(bridge as usize)
 }
 
-/// Returns whether the period suits the filter of hop `hop`, a bridge index and a filter number (`suits_filter`). Returns true if the
-/// bridge is missing. `suits_each` calls it.
+/// Returns whether the period, in ns, suits the filter of hop `hop`, a bridge index and a filter number (`suits_filter`). Returns true if
+/// the bridge is missing. `suits_each` calls it.
 fn suits_hop<A: Allocator + Copy>(plans: &[Accepted<A>], hop: (u16, u32), period: u64) -> bool
     ensures { result ≡ spec.suits_hop (slice_get plans.now hop.0) hop.1 period }
 {
@@ -56,7 +56,7 @@ fn suits_hop<A: Allocator + Copy>(plans: &[Accepted<A>], hop: (u16, u32), period
     }
 }
 
-/// Returns whether the period suits all of these hops. `suits_hops` calls it.
+/// Returns whether the period, in ns, suits all of these hops. `suits_hops` calls it.
 fn suits_each<A: Allocator + Copy>(plans: &[Accepted<A>], hops: &[(u16, u32)], period: u64) -> bool
     ensures { result ≡ list_all (λ (h : ℕ × ℕ). spec.suits_hop (slice_get plans.now h.0) h.1 period) hops.now }
 {
@@ -77,7 +77,7 @@ fn suits_hops<A: Allocator + Copy>(
     }
 }
 
-/// Returns the fault of the first stream whose period isn't a multiple of each cycle time on its route, or `None` without one.
+/// Returns the fault of the first stream whose period isn't a multiple of each cycle time on its route. `None` if every period fits.
 /// `check_periods` and `explain_plans` of `net_check` call it.
 pub fn first_misfit<A: Allocator + Copy>(
     plans: &[Accepted<A>],
@@ -192,7 +192,7 @@ fn hop_queues<A: Allocator + Copy>(
 }
 
 /// Returns the delays of a talker's frames through these hops, or `None` if they are unknown. Explanations of `net check` pass a stream's
-/// first hops. `talker_latency` and functions of `net_check` call it.
+/// first hops. `talker_latency`, `is_searched` of `net_check` and 2 more call it.
 pub fn latency_through_hops<A: Allocator + Copy>(
     alloc: A,
     plans: &[Accepted<A>],

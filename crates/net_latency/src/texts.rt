@@ -10,7 +10,7 @@ use std::rt::Files;
 /// Returns the contents of a file, read again for an explanation. Returns `None` if this fails or the file is a pipe, which gives its
 /// contents only once.
 ///
-/// `explain_traffic` and functions of `app_networks` and `net_check` call it.
+/// `explain_traffic`, `explain_refused_traffic` of `app_networks` and 4 more call it.
 pub fn reread_text<H: AllocGlobal + Files>(rt: &H, path: &str) -> Option<Vec<u8>> {
     if !fs::metadata(rt, path).ok()?.is_file() {
         return None;
@@ -32,7 +32,7 @@ pub struct NetworkText<'a> {
 
 impl<'a> NetworkText<'a> {
     /// Returns the bridge of the network file with index `place`, from 0, or `None` if the file lacks it. Explanations use the bridge's
-    /// name. `explain_period`, `explain_hop_fault` and functions of `net_check` call it.
+    /// name. `explain_period`, `bridge_name` of `net_check` and 2 more call it.
     pub fn bridge(self, place: u16) -> Option<&'a BridgeRow<Global>> {
         self.file.bridges().get(place as usize)
     }

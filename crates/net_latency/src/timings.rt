@@ -54,8 +54,8 @@ pub enum TrafficFigures {
     },
 }
 
-/// Returns whether the filter of a row with periodic traffic passes each of its frames. Returns false if the plan lacks the filter.
-/// `row_timings` calls it.
+/// Returns whether the filter of a periodic row passes each frame of the row. Returns false if the plan lacks the filter. `row_timings`
+/// calls it.
 fn row_passes<A: Allocator + Copy>(accepted: &Accepted<A>, row: &TrafficRow) -> bool
     requires row { IsRow row.now }
     ensures { (result ≡ true) ↔ RowPasses accepted.now row.now }
@@ -108,8 +108,8 @@ fn push_queue_timing<A: Allocator + Copy>(
     Ok(())
 }
 
-/// Returns the delays of row `index`, with periodic traffic, in each queue of its filter in `bounds`, in this order. Empty if no queue is
-/// reachable. `talker_row_timings` calls it.
+/// Returns the delays of periodic row `index` in each queue of its filter in `bounds`, in this order. Empty if no queue is reachable.
+/// `talker_row_timings` calls it.
 fn row_timings<A: Allocator + Copy>(
     alloc: A,
     accepted: &Accepted<A>,
@@ -165,7 +165,7 @@ fn put_row<A: Allocator + Copy>(
     Ok(())
 }
 
-/// Returns the delays of row `index`: in the queues of its protected filter, or in the shared queues of its filter's group. `queue_timings`
+/// Returns the delays of row `index`: in the queues of the row's protected filter, or in the shared queues of the group. `queue_timings`
 /// calls it.
 fn talker_row_timings<A: Allocator + Copy>(
     alloc: A,

@@ -18,8 +18,8 @@ use net_file::{
 };
 use std::alloc::Allocator;
 
-/// Returns whether a period is a multiple of each cycle time of a stream gate: of the old and of the new list. Returns true for a fixed
-/// gate, which has no cycle.
+/// Returns whether a period, in ns, is a multiple of each cycle time of a stream gate: of the old and of the new list. Returns true for a
+/// fixed gate, which has no cycle.
 ///
 /// `suits_gate` calls it.
 fn suits_schedule<A: Allocator + Copy>(period: u64, schedule: &Schedule<A>) -> bool
@@ -35,8 +35,8 @@ fn suits_schedule<A: Allocator + Copy>(period: u64, schedule: &Schedule<A>) -> b
     }
 }
 
-/// Returns whether a period is a multiple of each cycle time of a port: of the old and of the new gate control list. Returns true without a
-/// list. `suits_port` calls it.
+/// Returns whether a period in ns is a multiple of each cycle time of a port: of the old and of the new list. Returns true without a list.
+/// `suits_port` calls it.
 fn suits_lists<A: Allocator + Copy>(period: u64, lists: &Option<Egress<A>>) -> bool
     ensures { result ≡ spec.suits_lists period lists.now }
 {
@@ -50,8 +50,8 @@ fn suits_lists<A: Allocator + Copy>(period: u64, lists: &Option<Egress<A>>) -> b
     }
 }
 
-/// Returns whether a period is a multiple of the cycle times of the stream gate `gate`. Returns true if the gate is missing. `suits` calls
-/// it.
+/// Returns whether a period, in ns, is a multiple of the cycle times of the stream gate `gate`. Returns true if the gate is missing.
+/// `suits` calls it.
 fn suits_gate<A: Allocator + Copy>(plan: &Plan<A>, gate: u32, period: u64) -> bool
     ensures { result ≡ spec.suits_gate period (lookup (nat_eq gate) plan.now.gates) }
 {
@@ -89,7 +89,8 @@ pub(crate) fn can_wait_at_port<A: Allocator + Copy>(
     found
 }
 
-/// Returns whether a period is a multiple of the cycle times of a port. Returns true if the port is missing. `has_misfit_at_port` calls it.
+/// Returns whether a period, in ns, is a multiple of the cycle times of a port. Returns true if the port is missing. `has_misfit_at_port`
+/// calls it.
 fn suits_port<A: Allocator + Copy>(period: u64, port: Option<&PortPlan<A>>) -> bool
     ensures { result ≡ spec.suits_port period (option_map (λ p. p.now) port.entry) }
 {
@@ -99,8 +100,8 @@ fn suits_port<A: Allocator + Copy>(period: u64, port: Option<&PortPlan<A>>) -> b
     }
 }
 
-/// Returns whether the filter has a reachable queue at `port`, and the period isn't a multiple of the port's cycle times. `has_misfit`
-/// calls it.
+/// Returns whether the filter has a reachable queue at `port`, and the period, in ns, isn't a multiple of the port's cycle times.
+/// `has_misfit` calls it.
 fn has_misfit_at_port<A: Allocator + Copy>(
     plan: &Plan<A>,
     filter: &FilterPlan,
@@ -118,8 +119,8 @@ fn has_misfit_at_port<A: Allocator + Copy>(
     comes && !suits
 }
 
-/// Returns whether the filter has a reachable queue at some port, and the period isn't a multiple of this port's cycle times. `suits` calls
-/// it.
+/// Returns whether the filter has a reachable queue at some port, and the period, in ns, isn't a multiple of this port's cycle times.
+/// `suits` calls it.
 fn has_misfit<A: Allocator + Copy>(
     plan: &Plan<A>,
     filter: &FilterPlan,
@@ -137,8 +138,8 @@ fn has_misfit<A: Allocator + Copy>(
     found
 }
 
-/// Returns whether a period is a multiple of each cycle time on a filter's route. The route has its stream gate, and each port with a
-/// reachable queue. `suits_filter` and `row_fault` call it.
+/// Returns whether a period, in ns, is a multiple of each cycle time on a filter's route. The route has its stream gate, and each port with
+/// a reachable queue. `suits_filter` and `row_fault` call it.
 pub(crate) fn suits<A: Allocator + Copy>(plan: &Plan<A>, filter: &FilterPlan, period: u64) -> bool
     ensures { result ≡ spec.suits plan.now filter.now period }
 {
@@ -149,10 +150,10 @@ pub(crate) fn suits<A: Allocator + Copy>(plan: &Plan<A>, filter: &FilterPlan, pe
     !has_misfit(plan, filter, &reach, period)
 }
 
-/// Returns the fault of row `index`, with periodic traffic, or `None`.
+/// Returns the fault of periodic row `index`. The row has a fault if its filter is missing or unprotected, or its period isn't a multiple
+/// of a cycle time on the route.
 ///
-/// A row has a fault if its filter is missing or unprotected, or its period isn't a multiple of a cycle time on the route.
-/// `talker_row_fault` calls it.
+/// Returns `None` if the row has no fault. `talker_row_fault` calls it.
 pub(crate) fn row_fault<A: Allocator + Copy>(
     plan: &Plan<A>,
     index: u32,
@@ -180,8 +181,8 @@ pub(crate) fn row_fault<A: Allocator + Copy>(
     None
 }
 
-/// Returns the fault of row `index`, with a limit of its frames, or `None`. The row has a fault if its filter is missing or belongs to no
-/// group. `talker_row_fault` calls it.
+/// Returns the fault of limited row `index`: its filter is missing or belongs to no group. Returns `None` if the row has no fault.
+/// `talker_row_fault` calls it.
 fn group_fault<A: Allocator + Copy>(plan: &Plan<A>, index: u32, filter: u32) -> Option<TrafficFault>
     ensures { result ≡ kinds.group_fault index (lookup (nat_eq filter) plan.now.filters) }
 {
@@ -198,7 +199,11 @@ fn group_fault<A: Allocator + Copy>(plan: &Plan<A>, index: u32, filter: u32) -> 
     }
 }
 
-/// Returns the fault of row `index`, from 1, compared with the plan, or `None`. `explain_rows` and `traffic_fault` call it.
+/// Returns the fault of row `index`, from 1, compared with the plan. The filter of a periodic row may be missing or unprotected, or its
+/// period may be no multiple of a cycle time.
+///
+/// The filter of a limited row may be missing or in no group. Returns `None` if the row has no fault. `explain_rows` and `traffic_fault`
+/// call it.
 pub(crate) fn talker_row_fault<A: Allocator + Copy>(
     plan: &Plan<A>,
     index: u32,
@@ -212,8 +217,10 @@ pub(crate) fn talker_row_fault<A: Allocator + Copy>(
     }
 }
 
-/// Returns the first fault of the rows compared with the plan, or `None`. A filter may be missing, unprotected or in no group, or a period
-/// no multiple of a cycle time. `check_and_report` calls it.
+/// Returns the first fault of the rows compared with the plan. A filter may be missing, unprotected or in no group, or a period no multiple
+/// of a cycle time.
+///
+/// Returns `None` if no row has a fault. `check_and_report` calls it.
 pub fn traffic_fault<A: Allocator + Copy>(
     plan: &Plan<A>,
     rows: &[TalkerRow],

@@ -14,7 +14,8 @@ AllRunsEnd (p ∷ ps) inputs left o =
     EndsRun p (input_events (inputs zero)) (left zero) (o zero)
     × AllRunsEnd ps (λ b. inputs (suc b)) (λ b. left (suc b)) (λ b. o (suc b))
 
--- Holds if each bridge has a complete run of its inputs, and its linked ports receive exactly the frames that the other ends sent.
+-- Holds if each bridge has a complete run of its inputs, and each linked port receives exactly the frames that the
+-- other end sent.
 pub record HasConsistentRuns {A : Type 0} (n : Network A) (commands : ℕ → List Input) (captures : ℕ → ℕ → List CapturedFrame)
     (o : ℕ → Outcome A) : Type 0 where
   pub inputs : ℕ → List Input

@@ -36,7 +36,8 @@ abbrev pub if_some : {X Y : Type 0} → (X → Option Y) → Option X → Option
 if_some tell None = None
 if_some tell (Some x) = tell x
 
--- The first value that `tell index item` returns for the items of list `xs`, in order, with indexes from 0, or `None`.
+-- The first value that `tell index item` returns for the items of list `xs`, in order, with indexes from 0. `None` if
+-- every call returns `None`.
 abbrev pub first_by_index : {X Y : Type 0} → (ℕ → X → Option Y) → List X → Option Y
 first_by_index tell xs = first_among_numbers (length xs) (λ i. if_some (tell i) (slice_get xs i))
 
@@ -47,7 +48,7 @@ abbrev pub plan_port : {A : Type 0} → Option (Plan A) → ℕ → Option (Port
 plan_port None q = None
 plan_port (Some p) q = find_port p.ports q
 
--- The port that link end `e` names in the plans; `None` if its bridge or its port is missing.
+-- The port that link end `e` names in the plans; `None` if the bridge or the port is missing.
 abbrev pub end_port : {A : Type 0} → List (Plan A) → BridgePort → Option (PortPlan A)
 end_port plans e = plan_port (slice_get plans e.bridge) e.port
 
@@ -59,8 +60,8 @@ is_linked links e = is_some (peer_port links e.bridge e.port)
 abbrev pub is_same_port : BridgePort → BridgePort → Bool
 is_same_port a b = nat_eq a.bridge b.bridge && nat_eq a.port b.port
 
--- The first end of link `l` whose port has a link in the list `before`, or `None`. If `l` links a port with itself, the
--- end `l.other` counts as linked.
+-- The first end of link `l` whose port has a link in the list `before`. `None` if neither end is linked. If `l` links a
+-- port with itself, the end `l.other` counts as linked.
 abbrev pub doubly_linked_end : List Link → Link → Option BridgePort
 doubly_linked_end before l =
     if is_linked before l.one then Some l.one
@@ -80,8 +81,10 @@ abbrev pub is_one_speed : {A : Type 0} → Option (PortPlan A) → Option (PortP
 is_one_speed (Some a) (Some b) = nat_eq (speed_mbps a.speed) (speed_mbps b.speed)
 is_one_speed a b = true
 
--- The fault of test `test` for link `l` with index `i`, or `None`. Tests: both ends exist, no end has an earlier link, the speeds are equal. The fault counts
--- links from 1.
+-- The fault of test `test` for link `l` with index `i`. `None` if the link passes the test. The fault counts links from
+-- 1.
+--
+-- Tests: both ends exist, no end has an earlier link, the speeds are equal.
 abbrev pub link_test_fault : {A : Type 0} → NetworkParts A → LinkTest → ℕ → Link → Option NetworkFault
 link_test_fault n link_test.PortsExist i l =
     fault_unless (is_some (end_port n.plans l.one) && is_some (end_port n.plans l.other)) (fault.Unresolved (i + 1))
@@ -89,7 +92,8 @@ link_test_fault n link_test.SingleLink i l = option_map (fault.LinkTwice (i + 1)
 link_test_fault n link_test.SameSpeed i l =
     fault_unless (is_one_speed (end_port n.plans l.one) (end_port n.plans l.other)) (fault.SpeedsDiffer (i + 1))
 
--- The first fault that the link test `test` finds among all links of the network, in list order, or `None`.
+-- The first fault that the link test `test` finds among all links of the network, in list order. `None` if every link
+-- passes the test.
 abbrev pub link_fault : {A : Type 0} → NetworkParts A → LinkTest → Option NetworkFault
 link_fault n test = first_by_index (link_test_fault n test) n.links
 
@@ -114,17 +118,19 @@ abbrev pub protected_handle : List (ℕ × FilterPlan) → ℕ → Option ℕ
 protected_handle [] m = None
 protected_handle (f ∷ fs) m = if nat_eq f.0 m && f.1.protected then f.1.handle else protected_handle fs m
 
--- An example of stray or own frames (chosen by `w`) that hop `h` may accept over the link of the optional port, or `None`.
+-- An example of stray or own frames (kind `w`) that hop `h` may accept over the link of the optional port. `None` if
+-- the search finds no frames, or if the port is missing.
 abbrev pub first_taken_at_port : {A : Type 0} → FrameQuery → NetworkParts A → List StreamHop → StreamHop → Plan A → Option (PortPlan A) → Option FoundFrames
 first_taken_at_port w n hops h next None = None
 first_taken_at_port w n hops h next (Some on) = first_taken_over_link w n.plans (stream_value hops) (peer_port n.links h.bridge on.number) next on h.filter
 
--- The port `q` and an example of stray or own frames (chosen by `w`) that hop `h` may accept over its link, or `None`.
+-- The port `q` and an example of stray or own frames (kind `w`) that hop `h` may accept over its link. `None` if the
+-- hop can't accept any over this link.
 abbrev pub first_taken_at_port_number : {A : Type 0} → FrameQuery → NetworkParts A → List StreamHop → StreamHop → Plan A → ℕ → Option (ℕ × FoundFrames)
 first_taken_at_port_number w n hops h next q = option_map (λ (f : FoundFrames). (q, f)) (first_taken_at_port w n hops h next (find_port next.ports q))
 
--- The lowest port at which hop `h` may accept stray or own frames (chosen by `w`) over a link, with an example, or `None`. Own frames belong to a hop of the
--- stream.
+-- The lowest port at which hop `h` may accept stray or own frames (kind `w`) over a link, with an example. `None` if no
+-- port can. Own frames belong to a hop of the stream.
 abbrev pub first_taken_by_port : {A : Type 0} → FrameQuery → NetworkParts A → List StreamHop → StreamHop → Plan A → Option (ℕ × FoundFrames)
 first_taken_by_port w n hops h next = first_among_numbers 16 (λ j. first_taken_at_port_number w n hops h next (j + 1))
 
@@ -151,21 +157,26 @@ abbrev pub is_reached : {A : Type 0} → NetworkParts A → List StreamHop → �
 is_reached n hops k h next m =
     if nat_eq k 0 then has_entry_port n.links h.bridge next m else is_some (first_taken_by_port question.Own n hops h next)
 
--- The fault that `test` (Closed or Fed) finds for hop `h`, with index `k` in stream `i`, or `None`. The plan of its bridge is `next`, the
--- handle of its filter `m`.
+-- The fault that `test` (Closed or Fed) finds for hop `h`, with index `k` in stream `i`. `None` if the hop passes the
+-- test.
+--
+-- The plan of the hop's bridge is `next`, the handle of its filter `m`.
 abbrev pub frames_test_fault : {A : Type 0} → NetworkParts A → HopTest → ℕ → List StreamHop → ℕ → StreamHop → Plan A → ℕ → Option NetworkFault
 frames_test_fault n hop_test.Closed i hops k h next m = option_map (not_closed i k h) (first_taken_by_port question.Strays n hops h next)
 frames_test_fault n hop_test.Fed i hops k h next m = fault_unless (is_reached n hops k h next m) (fault.NotFed (i + 1) (k + 1))
 frames_test_fault n hop_test.Protected i hops k h next m = None
 frames_test_fault n hop_test.Unique i hops k h next m = None
 
--- The fault of `test` for hop `h`, index `k` in stream `i`, if its bridge exists and its protected filter names a handle; otherwise `None`.
+-- The fault of `test` for hop `h`, index `k` in stream `i`, if the hop's bridge exists and the protected filter names a
+-- handle. Otherwise `None`.
 abbrev pub hop_test_fault_by_handle : {A : Type 0} → NetworkParts A → HopTest → ℕ → List StreamHop → ℕ → StreamHop → Option (Plan A) → Option NetworkFault
 hop_test_fault_by_handle n test i hops k h None = None
 hop_test_fault_by_handle n test i hops k h (Some next) = if_some (frames_test_fault n test i hops k h next) (protected_handle next.filters h.filter)
 
--- The fault that the hop test `test` finds for hop `h`, which has index `k` in stream `i`, or `None`. Both indexes
--- start at 0, and the numbers in the fault at 1.
+-- The fault that the hop test `test` finds for hop `h`, which has index `k` in stream `i`. `None` if the hop passes the
+-- test.
+--
+-- Both indexes start at 0, and the numbers in the fault at 1.
 abbrev pub hop_test_fault : {A : Type 0} → NetworkParts A → HopTest → ℕ → List StreamHop → ℕ → StreamHop → Option NetworkFault
 hop_test_fault n hop_test.Protected i hops k h =
     fault_unless (is_protected_hop (slice_get n.plans h.bridge) h.filter) (fault.NotProtected (i + 1) (k + 1))
@@ -174,12 +185,13 @@ hop_test_fault n hop_test.Unique i hops k h =
 hop_test_fault n hop_test.Closed i hops k h = hop_test_fault_by_handle n hop_test.Closed i hops k h (slice_get n.plans h.bridge)
 hop_test_fault n hop_test.Fed i hops k h = hop_test_fault_by_handle n hop_test.Fed i hops k h (slice_get n.plans h.bridge)
 
--- The first fault that the hop test `test` finds among the hops of the stream with index `i`, in list order, or `None`.
+-- The first fault that the hop test `test` finds among the hops of the stream with index `i`, in list order. `None` if
+-- every hop passes the test.
 abbrev pub stream_test_fault : {A : Type 0} → NetworkParts A → HopTest → ℕ → List StreamHop → Option NetworkFault
 stream_test_fault n test i hops = first_by_index (hop_test_fault n test i hops) hops
 
--- The first fault that the hop test `test` finds in the network, by stream and then by hop, both in list order, or
--- `None`.
+-- The first fault that the hop test `test` finds in the network, by stream and then by hop, both in list order. `None`
+-- if every hop passes the test.
 abbrev pub hop_fault : {A : Type 0} → NetworkParts A → HopTest → Option NetworkFault
 hop_fault {A} n test = first_by_index (λ i (s : Vec StreamHop A). stream_test_fault n test i s.items) n.streams
 
@@ -187,7 +199,8 @@ hop_fault {A} n test = first_by_index (λ i (s : Vec StreamHop A). stream_test_f
 abbrev pub first_of_faults : List (Option NetworkFault) → Option NetworkFault
 first_of_faults faults = find_first (λ (e : Option NetworkFault). e) faults
 
--- The first fault of the hop tests in order (protected, listed once, closed, fed), each over all hops of all streams, or `None`.
+-- The first fault of the hop tests in order (protected, listed once, closed, fed), each over all hops of all streams.
+-- `None` if every hop passes all four tests.
 abbrev pub first_hop_fault : {A : Type 0} → NetworkParts A → Option NetworkFault
 first_hop_fault n = first_of_faults (
     hop_fault n hop_test.Protected
@@ -196,7 +209,8 @@ first_hop_fault n = first_of_faults (
     ∷ hop_fault n hop_test.Fed
     ∷ [])
 
--- The fault that `net check` reports for the network, or `None`. The three link tests come before the four hop tests.
+-- The fault that `net check` reports for the network. `None` if the network passes all tests. The three link tests come
+-- before the four hop tests.
 abbrev pub first_fault : {A : Type 0} → NetworkParts A → Option NetworkFault
 first_fault n = first_of_faults (
     link_fault n link_test.PortsExist

@@ -48,56 +48,66 @@ abbrev pub frames_by_handle : {A : Type 0} → FrameQuery → Plan A → (ℕ �
 frames_by_handle w p is_of_stream q from priority handle =
     frames_if_asked (is_asked w p is_of_stream q (matching_filter p handle priority)) (matching_filter p handle priority) from
 
--- The first example of stray or own frames (chosen by `w`) of pattern `s`, from ingress port `on` to port `q`, or `None`. Handles are tried in the order of
--- `possible_handles`.
+-- The first example of stray or own frames (kind `w`) of pattern `s` that arrive at ingress port `on` and can leave by
+-- port `q`. `None` if the search finds no frames.
+--
+-- Handles are tried in the order of `possible_handles`.
 abbrev pub first_frame_on_ingress : {A : Type 0} → FrameQuery → Plan A → (ℕ → Bool) → ℕ → FramePattern → PortPlan A → Option FoundFrames
 first_frame_on_ingress w p is_of_stream q s on =
     if can_leave p.database on.number (frame_vid on s.tag) s q
     then find_first (frames_by_handle w p is_of_stream q on.number (frame_priority on s.tag)) (possible_handles p.streams on.number (frame_vid on s.tag) s)
     else None
 
--- An example of stray or own frames (chosen by `w`) of pattern `s`, from the optional ingress port to port `q`, or `None`.
+-- The first example of stray or own frames (kind `w`) of pattern `s` that arrive at the ingress port and can leave by
+-- port `q`.
+--
+-- `None` if the port is missing or the search finds no frames.
 abbrev pub first_frame_on_ingress_if_any : {A : Type 0} → FrameQuery → Plan A → (ℕ → Bool) → ℕ → FramePattern → Option (PortPlan A) → Option FoundFrames
 first_frame_on_ingress_if_any w p is_of_stream q s None = None
 first_frame_on_ingress_if_any w p is_of_stream q s (Some on) = first_frame_on_ingress w p is_of_stream q s on
 
--- The first example of stray or own frames (chosen by `w`) of pattern `s` that can leave by port `q`, or `None`. Ingress ports are tried from 1 to 16.
+-- The first example of stray or own frames (kind `w`) of pattern `s` that can leave by port `q`. `None` if no frames
+-- can. Ingress ports are tried from 1 to 16.
 abbrev pub first_sent_frame : {A : Type 0} → FrameQuery → Plan A → (ℕ → Bool) → ℕ → FramePattern → Option FoundFrames
 first_sent_frame w p is_of_stream q s = first_among_numbers 16 (λ i. first_frame_on_ingress_if_any w p is_of_stream q s (find_port p.ports (i + 1)))
 
--- An example of stray or own frames (chosen by `w`) from port `q` with this tag and the address of `e`, or `None`. Entry `e` must give
+-- An example of stray or own frames (kind `w`) from port `q` with this tag and the address of `e`. Entry `e` must give
 -- these frames to filter `n`.
+--
+-- `None` if the search finds no frames.
 abbrev pub first_taken_with_tag : {A : Type 0} → FrameQuery → Plan A → (ℕ → Bool) → ℕ → Plan A → PortPlan A → ℕ → StreamEntry → Option Tag
     → Option FoundFrames
 first_taken_with_tag w p is_of_stream q next on n e tag =
     if is_feeding_entry next on n e tag then first_sent_frame w p is_of_stream q (frame_pattern e tag) else None
 
--- The first example of stray or own frames (chosen by `w`) from port `q` with the address of entry `e` for filter `n`, or `None`. Tags are
--- tried in the order of `possible_tags`.
+-- The first example of stray or own frames (kind `w`) from port `q` with the address of entry `e` for filter `n`.
+-- `None` if the search finds no frames.
+--
+-- Tags are tried in the order of `possible_tags`.
 abbrev pub first_taken_of_entry : {A : Type 0} → FrameQuery → Plan A → (ℕ → Bool) → ℕ → Plan A → PortPlan A → ℕ → StreamEntry → Option FoundFrames
 first_taken_of_entry w p is_of_stream q next on n e = find_first (first_taken_with_tag w p is_of_stream q next on n e) (possible_tags e.vid)
 
--- The first example of stray or own frames (chosen by `w`) from port `q` that filter `n` may accept, or `None`. The
--- stream entries of plan `next` are tried in order.
+-- The first example of stray or own frames (kind `w`) from port `q` that filter `n` may accept. `None` if the search
+-- finds no frames. The stream entries of plan `next` are tried in order.
 abbrev pub first_taken : {A : Type 0} → FrameQuery → Plan A → (ℕ → Bool) → ℕ → Plan A → PortPlan A → ℕ → Option FoundFrames
 first_taken w p is_of_stream q next on n = find_first (first_taken_of_entry w p is_of_stream q next on n) next.streams
 
--- An example of stray or own frames (chosen by `w`) that filter `n` may accept from the optional sending port `q`, or
--- `None`.
+-- An example of stray or own frames (kind `w`) that filter `n` may accept from the optional sending port `q`. `None` if
+-- the port is missing or the search finds no frames.
 abbrev pub first_taken_of_sender_port : {A : Type 0} → FrameQuery → Plan A → (ℕ → Bool) → ℕ → Option (PortPlan A) → Plan A → PortPlan A → ℕ
     → Option FoundFrames
 first_taken_of_sender_port w p is_of_stream q None next on n = None
 first_taken_of_sender_port w p is_of_stream q (Some out) next on n = first_taken w p is_of_stream q next on n
 
--- An example of stray or own frames (chosen by `w`) that filter `n` may accept at port `on` from the optional sending
--- bridge, or `None`.
+-- An example of stray or own frames (kind `w`) that filter `n` may accept at port `on` from the optional sending
+-- bridge. `None` if the bridge is missing or the search finds no frames.
 abbrev pub first_taken_of_sender : {A : Type 0} → FrameQuery → Option (Plan A) → List (ℕ × ℕ) → End → Plan A → PortPlan A → ℕ → Option FoundFrames
 first_taken_of_sender w None stream e next on n = None
 first_taken_of_sender w (Some p) stream e next on n =
     first_taken_of_sender_port w p (has_hop stream e.bridge) e.port (find_port p.ports e.port) next on n
 
--- An example of stray or own frames (chosen by `w`) that filter `n` may accept at port `on` from the optional link end,
--- or `None`.
+-- An example of stray or own frames (kind `w`) that filter `n` may accept at port `on` from the optional link end.
+-- `None` if the link end is missing or the search finds no frames.
 abbrev pub first_taken_over_link : {A : Type 0} → FrameQuery → List (Plan A) → List (ℕ × ℕ) → Option End → Plan A → PortPlan A → ℕ
     → Option FoundFrames
 first_taken_over_link w plans stream None next on n = None

@@ -51,7 +51,8 @@ possible_handles (e ∷ es) port vid s =
     if can_match e port vid s then Some e.handle ∷ (if is_same_kind e.kind s.kind then [] else possible_handles es port vid s)
     else possible_handles es port vid s
 
--- The stream filter of plan `p` that matches frames with this optional stream handle and this priority, or `None`.
+-- The stream filter of plan `p` that matches frames with this optional stream handle and this priority. `None` if no
+-- filter matches.
 abbrev pub matching_filter : {A : Type 0} → Plan A → Option ℕ → ℕ → Option (ℕ × FilterPlan)
 matching_filter p handle priority = frame_filter p.filters (filter_input 0 handle priority false 0 0)
 

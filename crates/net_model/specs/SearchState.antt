@@ -28,8 +28,8 @@ hops s = has_hop (stream_value s.stream.now) s.end.bridge
 abbrev pub frames_from_port : {A : Type 0} → SendingPort A → ℕ → ℕ → Option ℕ → Option FoundFrames
 frames_from_port s from priority handle = finding.frames_by_handle s.question s.plan.now (hops s) s.end.port from priority handle
 
--- The first example of frames of pattern `sort` that the search looks for and that arrive on port `port` of the sender,
--- or `None`.
+-- The first example of frames of pattern `sort` that the search looks for and that arrive on port `port` of the sender.
+-- `None` if the port is missing or the search finds no frames.
 abbrev pub frames_on_ingress_number : {A : Type 0} → SendingPort A → FramePattern → ℕ → Option FoundFrames
 frames_on_ingress_number s sort port = finding.first_frame_on_ingress_if_any s.question s.plan.now (hops s) s.end.port sort (find_port s.plan.now.ports port)
 
@@ -43,12 +43,14 @@ pub record IsTakingFilter {A : Type 0} (t : TakingFilter A) : Type 0 where
   pub sending : IsSendingPort t.sending
   pub names : (h k : ℕ) → is_filter_number t.filter (matching_filter t.next.now (Some h) k) ≡ true → h ≡ t.handle
 
--- The first example of frames with this tag and the address of entry `e` that the search looks for, or `None`.
+-- The first example of frames with this tag and the address of entry `e` that the search looks for. `None` if the
+-- search finds no frames.
 abbrev pub first_frame_with_tag : {A : Type 0} → TakingFilter A → StreamEntry → Option Tag → Option FoundFrames
 first_frame_with_tag t e tag =
     finding.first_taken_with_tag t.sending.question t.sending.plan.now (hops t.sending) t.sending.end.port t.next.now t.on.now t.filter e tag
 
--- The first example of frames that the hop's filter accepts and that the search looks for, or `None`.
+-- The first example of frames that the hop's filter accepts and that the search looks for. `None` if the search finds
+-- no frames.
 abbrev pub first_taken_frame : {A : Type 0} → TakingFilter A → Option FoundFrames
 first_taken_frame t =
     finding.first_taken t.sending.question t.sending.plan.now (hops t.sending) t.sending.end.port t.next.now t.on.now t.filter

@@ -22,6 +22,7 @@ pub record IsTestedHop {A : Type 0} (c : TestedHop A) : Type 0 where
   pub names : (h k : ℕ) → is_filter_number c.hop.filter (matching_filter c.next.now (Some h) k) ≡ true → h ≡ c.handle
   pub ports : c.ports ≡ test_results 16 (λ i. has_entry c.next.now (i + 1) c.handle)
 
--- An example of stray or own frames (chosen by `w`) that the hop may accept at port `on` over a link from `e`, or `None`.
+-- An example of stray or own frames (kind `w`) that the hop may accept at port `on` over a link from `e`. `None` if the
+-- search finds no frames.
 abbrev pub first_taken_from_end : {A : Type 0} → TestedHop A → FrameQuery → PortPlan A → networks.End → Option FoundFrames
 first_taken_from_end c w on e = first_taken_over_link w c.case.plans.now (stream_value c.stream.now) (Some e) c.next.now on c.hop.filter

@@ -82,8 +82,8 @@ fn add_static_groups<A: Allocator + Copy>(
     Ok(())
 }
 
-/// Adds to `groups` the two groups of a static entry: its destination in its VLAN, and its destination without VLAN. `add_static_groups`
-/// calls it.
+/// Adds to `groups` the two groups of a static entry: the entry's destination in the entry's VLAN, and the destination without VLAN.
+/// `add_static_groups` calls it.
 fn add_entry_groups<A: Allocator + Copy>(
     groups: &mut Vec<FrameGroup, A>,
     entry: &StaticEntry,

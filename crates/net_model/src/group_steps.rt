@@ -16,8 +16,8 @@ use bridge_forward::{PortSet, find_members};
 use bridge_limits::NoMemory;
 use std::alloc::Allocator;
 
-/// Returns the VLAN in which port `on` classifies frames of a group: the VLAN of their tag or, without one, the port's own. `egress_ports`
-/// calls it.
+/// Returns the VLAN in which port `on` classifies frames of a group. It is the VLAN of their tag, or the port's own VLAN if the frames have
+/// no tag. `egress_ports` calls it.
 fn classified_vlan<A: Allocator + Copy>(group: &FrameGroup, on: &PortPlan<A>) -> u16
     ensures { result ≡ spec.classified_vlan group.now on.now }
 {

@@ -23,7 +23,7 @@ use bridge_frame::Tag;
 use bridge_ident::{Kind, StreamEntry};
 use std::alloc::Allocator;
 
-/// The receiving end of a link: its bridge's plan, its port, and the filter that must get each frame that the previous hop sends.
+/// The receiving end of a link: the bridge's plan, the port, and the filter that must get each frame that the previous hop sends.
 #[derive(Drop)]
 struct Taker<'a, A: Allocator + Copy> {
     plan: &'a Plan<A>,

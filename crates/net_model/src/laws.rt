@@ -46,7 +46,7 @@ pub fn stream_alone<A: Allocator + Copy>()
         → IsAlone n commands captures stream (λ (h : Hop A). lookup (nat_eq h.number) (o h.bridge).filters.items) }
 {}
 
-/// If a stream is alone on an idle network, its inputs from outside determine the records of its hops. Links may form a cycle.
+/// If a stream is alone on an idle network, the stream's inputs from outside determine the records of its hops. Links may form a cycle.
 /// docs/NETWORK_PROOF.md cites it.
 pub fn stream_alone_has_one_result<A: Allocator + Copy>()
     ensures { (n : Network A) (stream : List (ℕ × ℕ)) (commands others : ℕ → List Input)

@@ -41,7 +41,7 @@ pub fn is_bridge_port(end: BridgePort, bridge: u16, port: u8) -> bool
 
 /// Returns the bridge port at the other end of the link of port `port`, or `None` for an open port. The first link of the port decides.
 ///
-/// Searches for frames, steps and open ports call it, and functions of `net_check` and `net_latency`.
+/// `push_step_over_link`, `hop_over_link` of `net_check` and 6 more call it.
 pub fn peer_port(links: &[Link], bridge: u16, port: u8) -> Option<BridgePort>
     ensures { option_map end_value result ≡ peer_port links.now bridge port }
 {

@@ -10,8 +10,8 @@ use crate::step::Step;
 use bridge_limits::NoMemory;
 use std::alloc::Allocator;
 
-/// Returns a port from which steps lead back to itself, or `None`. It searches from each step's start, so `find_loop_port` first removes
-/// steps on no loop.
+/// Returns a port from which steps lead back to itself. `None` if no port has a loop. The search begins at each step's start, so
+/// `find_loop_port` first removes steps on no loop.
 fn first_loop_port<A: Allocator + Copy>(
     alloc: A,
     steps: &[Step],

@@ -51,8 +51,8 @@ pub(crate) struct TestedNetwork<'a, A: Allocator + Copy> {
     pub streams: &'a [Vec<StreamHop, A>],
 }
 
-/// Returns the plan of the bridge with index `place`, from 0. Returns `None` if the network has no such bridge. Tests and searches here
-/// call it, and functions of `net_check` and `net_latency`.
+/// Returns the plan of the bridge with index `place`, from 0. Returns `None` if the network lacks the bridge. `is_received_by_next_hop`,
+/// `hop_sdu` of `net_check` and 8 more call it.
 pub fn find_plan<'a, A: Allocator + Copy>(
     plans: &'a [Accepted<A>],
     place: u16,
@@ -82,15 +82,15 @@ fn end_port<'a, A: Allocator + Copy>(
     }
 }
 
-/// Returns whether the port that `end` names has a link. A port without one is open. `doubly_linked_end` and `is_entry_port` call it.
+/// Returns whether the port that `end` names has a link. A port without a link is open. `doubly_linked_end` and `is_entry_port` call it.
 fn is_linked(links: &[Link], end: BridgePort) -> bool
     ensures { result ≡ spec.is_linked links.now end }
 {
     peer_port(links, end.bridge, end.port).is_some()
 }
 
-/// Returns the first end of `link` whose port has a link in `before`, or `None`. If the link joins a port to itself, its end `other`
-/// counts. `link_test_fault` calls it.
+/// Returns the first end of `link` whose port has a link in `before`. `None` if neither end is linked. If the link joins a port to itself,
+/// its end `other` counts. `link_test_fault` calls it.
 fn doubly_linked_end(before: &[Link], link: &Link) -> Option<BridgePort>
     ensures { result ≡ spec.doubly_linked_end before.now link.now }
 {
@@ -167,7 +167,7 @@ fn is_repeated_hop<A: Allocator + Copy>(
 /// Returns the stream handle of the protected filter with number `number`. Returns `None` if the filter is missing, unprotected or names no
 /// handle.
 ///
-/// Tests and searches here call it, and a function of `net_latency`.
+/// `receives_every_frame`, `can_others_enter` of `net_latency` and 2 more call it.
 pub fn protected_handle(filters: &[(u32, FilterPlan)], number: u32) -> Option<u32>
     ensures { result ≡ spec.protected_handle filters.now number }
 {
@@ -179,7 +179,7 @@ pub fn protected_handle(filters: &[(u32, FilterPlan)], number: u32) -> Option<u3
     None
 }
 
-/// Returns whether the plan has a stream entry with handle `handle` on port `port`. Without such an entry, no frame gets the handle there.
+/// Returns whether the plan has a stream entry with handle `handle` on port `port`. If the plan has none, no frame gets the handle there.
 /// `is_entry_port` and `enters` of `net_latency` call it.
 pub fn has_entry<A: Allocator + Copy>(plan: &Plan<A>, port: u8, handle: u32) -> bool
     ensures { result ≡ spec.has_entry plan.now port handle }
@@ -268,8 +268,9 @@ impl<'a, A: Allocator + Copy> TestedHop<'a, A> {
         }
     }
 
-    /// Returns an example of the frames that `question` asks for, which the hop can accept over the link of port `on`. Returns `None`
-    /// without such frames or without a link.
+    /// Returns an example of the frames that `question` asks for, which the hop can accept over the link of port `on`.
+    ///
+    /// Returns `None` if the search finds no frames, or if the port has no link.
     fn first_frame_over_link(&self, question: FrameQuery, on: &PortPlan<A>) -> Option<FoundFrames>
         requires { IsTestedHop self.now }
         ensures { result ≡ spec.first_taken_at_port question (tested_parts self.now.case) self.now.stream.now
@@ -282,8 +283,9 @@ impl<'a, A: Allocator + Copy> TestedHop<'a, A> {
         }
     }
 
-    /// Returns the number `port` and an example of the frames that `question` asks for, which can arrive there over a link. Returns `None`
-    /// without such frames or without this port.
+    /// Returns the number `port` and an example of the frames that `question` asks for, which can arrive there over a link.
+    ///
+    /// Returns `None` if the search finds no frames, or if the bridge lacks the port.
     fn first_frame_on_port(&self, question: FrameQuery, port: u8) -> Option<(u8, FoundFrames)>
         requires { IsTestedHop self.now }
         ensures { result ≡ spec.first_taken_at_port_number question (tested_parts self.now.case) self.now.stream.now
@@ -324,7 +326,7 @@ impl<'a, A: Allocator + Copy> TestedHop<'a, A> {
     }
 
     /// Returns the lowest port at which the hop can accept frames that `question` asks for over a link, with an example. Returns `None` if
-    /// there is no such port.
+    /// no port can.
     #[tactic(auto, using(bridge_check::proofs::Told::first_none, bridge_check::proofs::Told::first_more))]
     fn first_frame_by_port(&self, question: FrameQuery) -> Option<(u8, FoundFrames)>
         requires { IsTestedHop self.now }
@@ -382,8 +384,10 @@ impl<'a, A: Allocator + Copy> TestedHop<'a, A> {
         }
     }
 
-    /// Returns the fault of the test `Closed` or `Fed` for hop `k` of stream `i`, or `None`. Both are indexes from 0; the fault counts from
-    /// 1. `hop_test_fault_in_plan` calls it.
+    /// Returns the fault of the test `Closed` or `Fed` for hop `k` of stream `i`. `None` if the hop passes the test.
+    /// `hop_test_fault_in_plan` calls it.
+    ///
+    /// `k` and `i` are indexes from 0; the fault counts from 1.
     fn frames_test_fault(&self, test: HopTest, i: usize, k: usize) -> Option<NetworkFault>
         requires case { IsTestedHop self.now }
         requires stream { i < 18446744073709551615 }
@@ -642,7 +646,8 @@ impl<'a, A: Allocator + Copy> TestedNetwork<'a, A> {
         first
     }
 
-    /// Returns the first fault of a hop, or `None`. Finishes each test for all hops before the next test. `fault` calls it.
+    /// Returns the first fault of a hop. `None` if every hop passes all tests. Finishes each test for all hops before the next test.
+    /// `fault` calls it.
     fn first_hop_fault(&self) -> Option<NetworkFault>
         ensures { result ≡ spec.first_hop_fault (tested_parts self.now) }
     {
@@ -661,8 +666,8 @@ impl<'a, A: Allocator + Copy> TestedNetwork<'a, A> {
         self.hop_fault(HopTest::Fed)
     }
 
-    /// Returns the first fault of the network, or `None`: tests of links come before tests of hops. `first_fault` calls it for
-    /// `check_network`.
+    /// Returns the first fault of the network: tests of links come before tests of hops. `None` if the network passes all tests.
+    /// `first_fault` calls it for `check_network`.
     pub(crate) fn fault(&self) -> Option<NetworkFault>
         ensures { result ≡ spec.first_fault (tested_parts self.now) }
     {

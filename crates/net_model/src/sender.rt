@@ -13,7 +13,7 @@ pub struct Sender {
 }
 
 /// Returns the other end of the port's first link, with the link's delay, or `None` for an open port. `bridge` is the bridge's index, from
-/// 0. Functions of `net_report` and `net_run` call it.
+/// 0. `has_next_hop` of `net_report`, `is_linked` of `net_run` and 3 more call it.
 pub fn find_sender(links: &[Link], bridge: usize, port: u8) -> Option<Sender>
     ensures { option_map sender_value result ≡ networks.sender (map link_value links.now) bridge port }
 {

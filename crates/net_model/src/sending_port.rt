@@ -64,7 +64,7 @@ pub(crate) fn accepts_tag(kind: TagKind, tag: Option<Tag>) -> bool
 }
 
 /// Returns the VLAN in which `port` classifies a frame with tag `tag`, which is `None` for an untagged frame. `is_forwarded`, `gives_all`
-/// and others call it.
+/// and 3 more call it.
 pub(crate) fn classified_vid<A: Allocator + Copy>(port: &PortPlan<A>, tag: Option<Tag>) -> u16
     ensures { result ≡ classified.frame_vid port.now tag }
 {
@@ -314,8 +314,10 @@ impl<'a, A: Allocator + Copy> SendingPort<'a, A> {
         }
     }
 
-    /// Returns the first example among frames with tag `tag`, the address of `named`, VLAN `vid` and priority `priority` on port `port`, or
-    /// `None`. Tries the handles that they can get. `first_frame_on_ingress` calls it.
+    /// Returns the first example among frames with tag `tag`, the address of `named`, VLAN `vid` and priority `priority` on port `port`.
+    /// `None` if the search finds no frames.
+    ///
+    /// Tries the handles that these frames can get. `first_frame_on_ingress` calls it.
     fn first_by_handle(
         &self,
         named: &StreamEntry,
@@ -339,8 +341,10 @@ impl<'a, A: Allocator + Copy> SendingPort<'a, A> {
         self.find_frames(port, priority, None)
     }
 
-    /// Returns the first example among frames with this tag and the address of `named` that arrive on `on`, or `None`. The frames must be
-    /// able to leave by the sending port.
+    /// Returns the first example among frames with this tag and the address of `named` that arrive on `on`. The frames must be able to
+    /// leave by the sending port.
+    ///
+    /// `None` if the search finds no frames.
     ///
     /// `first_frame_on_ingress_number` calls it.
     fn first_frame_on_ingress(
@@ -402,8 +406,8 @@ impl<'a, A: Allocator + Copy> SendingPort<'a, A> {
         self.first_frame_on_ingress_number(named, tag, port)
     }
 
-    /// Returns the first example among frames with this tag and the address of `named`, or `None`. Tries ingress ports in rising order.
-    /// `first_frame_with_tag` calls it.
+    /// Returns the first example among frames with this tag and the address of `named`. `None` if the search finds no frames. Tries ingress
+    /// ports in rising order. `first_frame_with_tag` calls it.
     #[tactic(auto, using(bridge_check::proofs::Told::first_none, bridge_check::proofs::Told::first_more))]
     pub(crate) fn first_frame_by_ingress(
         &self,

@@ -11,7 +11,7 @@ pub struct Step {
     pub to: BridgePort,
 }
 
-/// Returns whether two bridge ports are equal: in bridge index and port number. `is_reached`, `has_outgoing_step` and others call it.
+/// Returns whether two bridge ports are equal: in bridge index and port number. `is_reached`, `has_outgoing_step` and 2 more call it.
 pub(crate) fn is_same_port(a: BridgePort, b: BridgePort) -> bool
     ensures { result ≡ peeling.is_same_port a b }
 {

@@ -52,8 +52,8 @@ fn sample_tag(i: u8, vid: u16) -> Option<Tag>
 }
 
 impl<'a, A: Allocator + Copy> TakingFilter<'a, A> {
-    /// Returns frames with the address of `entry` and the first tag for which the search has an example, or `None`. `entry_sample` calls
-    /// it.
+    /// Returns frames with the address of `entry` and the first tag for which the search has an example. `None` if no tag has one.
+    /// `entry_sample` calls it.
     fn sample_of_entry(&self, entry: &StreamEntry) -> Option<StrayFrame>
         requires { IsTakingFilter self.now }
         ensures asked { IfSome result (IsSample self.now) }
@@ -69,8 +69,8 @@ impl<'a, A: Allocator + Copy> TakingFilter<'a, A> {
         None
     }
 
-    /// Returns an example of frames with the address of `entry`, or `None`. Entries of another port, or with another handle than the hop's
-    /// filter, have no example. `first_sample` calls it.
+    /// Returns an example of frames with the address of `entry`. `None` if the search finds no frames. Entries of another port, or with
+    /// another handle than the hop's filter, have no example. `first_sample` calls it.
     fn entry_sample(&self, entry: &StreamEntry) -> Option<StrayFrame>
         requires { IsTakingFilter self.now }
         ensures asked { IfSome result (IsSample self.now) }
@@ -86,8 +86,8 @@ impl<'a, A: Allocator + Copy> TakingFilter<'a, A> {
         self.sample_of_entry(entry)
     }
 
-    /// Returns the first example of frames that the filter accepts at its port, or `None`. Tries the bridge's entries in order.
-    /// `first_stray_of_sender` calls it.
+    /// Returns the first example of frames that the filter accepts at its port. `None` if the search finds no frames. Tries the bridge's
+    /// entries in order. `first_stray_of_sender` calls it.
     fn first_sample(&self) -> Option<StrayFrame>
         requires { IsTakingFilter self.now }
         ensures asked { IfSome result (IsSample self.now) }
@@ -103,8 +103,10 @@ impl<'a, A: Allocator + Copy> TakingFilter<'a, A> {
     }
 }
 
-/// Returns example frames that the bridge with plan `plan` can send from `end`, or `None`. The hop's filter, with handle `handle`, would
-/// accept them although they belong to no hop. `first_stray_from_peer` calls it.
+/// Returns example frames that the bridge with plan `plan` can send from `end`. The hop's filter, with handle `handle`, would accept them
+/// although they belong to no hop. `None` if the search finds no frames.
+///
+/// `first_stray_from_peer` calls it.
 fn first_stray_of_sender<A: Allocator + Copy>(
     stream: &[StreamHop],
     hop: StreamHop,
@@ -142,8 +144,10 @@ fn first_stray_of_sender<A: Allocator + Copy>(
     }
 }
 
-/// Returns example stray frames that the hop's filter, with handle `handle`, would accept over a link from `end`, or `None`. Looks up the
-/// plan of the sending bridge. `first_stray_over_link` calls it.
+/// Returns example stray frames that the hop's filter, with handle `handle`, would accept over a link from `end`. `None` if the search
+/// finds no frames. Looks up the plan of the sending bridge.
+///
+/// `first_stray_over_link` calls it.
 fn first_stray_from_peer<A: Allocator + Copy>(
     plans: &[Accepted<A>],
     stream: &[StreamHop],
@@ -188,8 +192,8 @@ fn first_stray_over_link<A: Allocator + Copy>(
     }
 }
 
-/// Returns example stray frames at port `on` of the hop's bridge. `None` without such frames, or if the hop's filter names no handle.
-/// `first_stray_on_port_number` calls it.
+/// Returns example stray frames at port `on` of the hop's bridge. `None` if the search finds no frames, or if the hop's filter names no
+/// handle. `first_stray_on_port_number` calls it.
 fn first_stray_on_port<A: Allocator + Copy>(
     plans: &[Accepted<A>],
     links: &[Link],
@@ -208,8 +212,8 @@ fn first_stray_on_port<A: Allocator + Copy>(
     }
 }
 
-/// Returns example stray frames at the port with number `port`. `None` without such frames, or if the hop's bridge lacks the port.
-/// `find_stray` calls it.
+/// Returns example stray frames at the port with number `port`. `None` if the search finds no frames, or if the hop's bridge lacks the
+/// port. `find_stray` calls it.
 fn first_stray_on_port_number<A: Allocator + Copy>(
     plans: &[Accepted<A>],
     links: &[Link],

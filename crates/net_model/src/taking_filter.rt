@@ -28,8 +28,8 @@ pub(crate) struct TakingFilter<'a, A: Allocator + Copy> {
 }
 
 impl<'a, A: Allocator + Copy> TakingFilter<'a, A> {
-    /// Returns the first example among frames with this tag and the address of `entry`. Returns `None` without an example, or if the entry
-    /// doesn't give such frames to the filter.
+    /// Returns the first example among frames with this tag and the address of `entry`. Returns `None` if there is no example, or if the
+    /// entry doesn't give these frames to the filter.
     ///
     /// `sample_of_entry`, `first_or_frame_with_tag` and `first_frame_of_matching_entry` call it.
     pub(crate) fn first_frame_with_tag(
@@ -64,8 +64,8 @@ impl<'a, A: Allocator + Copy> TakingFilter<'a, A> {
         self.first_frame_with_tag(entry, tag)
     }
 
-    /// Returns the first example among frames with the address of `entry` and VLAN identifier `vid`, or `None`. Tries priorities 0 to 7.
-    /// `first_or_frame_by_priority` calls it.
+    /// Returns the first example among frames with the address of `entry` and VLAN identifier `vid`. `None` if the search finds no frames.
+    /// Tries priorities 0 to 7. `first_or_frame_by_priority` calls it.
     #[tactic(auto, using(bridge_check::proofs::Told::first_none, bridge_check::proofs::Told::first_more))]
     fn first_frame_by_priority(&self, entry: &StreamEntry, vid: u16) -> Option<FoundFrames>
         requires { IsTakingFilter self.now }
@@ -97,8 +97,10 @@ impl<'a, A: Allocator + Copy> TakingFilter<'a, A> {
         self.first_frame_by_priority(entry, vid)
     }
 
-    /// Returns the first example among frames with the address of `entry`, or `None`. Tries no tag, then VLAN identifier 0, then the
-    /// entry's. `first_frame_of_entry` calls it after it has compared port and handle.
+    /// Returns the first example among frames with the address of `entry`. `None` if the search finds no frames. Tries no tag, then VLAN
+    /// identifier 0, then the entry's.
+    ///
+    /// `first_frame_of_entry` calls it after it has compared port and handle.
     fn first_frame_of_matching_entry(&self, entry: &StreamEntry) -> Option<FoundFrames>
         requires { IsTakingFilter self.now }
         ensures { result ≡ find_first (first_frame_with_tag self.now entry.now) (possible_tags entry.now.vid) }
@@ -108,8 +110,8 @@ impl<'a, A: Allocator + Copy> TakingFilter<'a, A> {
         self.first_or_frame_by_priority(alone, entry, entry.vid)
     }
 
-    /// Returns the first example among frames with the address of `entry`, or `None`. Entries of another port or with another handle have
-    /// no example. `first_taken_frame` calls it.
+    /// Returns the first example among frames with the address of `entry`. `None` if the search finds no frames. Entries of another port or
+    /// with another handle have no example. `first_taken_frame` calls it.
     fn first_frame_of_entry(&self, entry: &StreamEntry) -> Option<FoundFrames>
         requires { IsTakingFilter self.now }
         ensures { result ≡ find_first (first_frame_with_tag self.now entry.now) (possible_tags entry.now.vid) }
@@ -123,8 +125,8 @@ impl<'a, A: Allocator + Copy> TakingFilter<'a, A> {
         self.first_frame_of_matching_entry(entry)
     }
 
-    /// Returns the first example among frames that the filter accepts at its port, or `None`. Tries the bridge's entries in order.
-    /// `first_frame_of_sender` calls it.
+    /// Returns the first example among frames that the filter accepts at its port. `None` if the search finds no frames. Tries the bridge's
+    /// entries in order. `first_frame_of_sender` calls it.
     pub(crate) fn first_taken_frame(&self) -> Option<FoundFrames>
         requires { IsTakingFilter self.now }
         ensures { result ≡ first_taken_frame self.now }

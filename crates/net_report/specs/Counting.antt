@@ -30,7 +30,7 @@ abbrev pub set_counts_if_any : List CopyCounts → ℕ → CopyFate → Option C
 set_counts_if_any ts k f None = ts
 set_counts_if_any ts k f (Some t) = slice_set ts k (add_fate t f)
 
--- The list of counts with one more of fate `f` at index `k`; unchanged if the list has no such index.
+-- The list of counts with one more of fate `f` at index `k`; unchanged if the list has no item at this index.
 abbrev pub count_at_index : List CopyCounts → ℕ → CopyFate → List CopyCounts
 count_at_index ts k f = set_counts_if_any ts k f (slice_get ts k)
 

@@ -37,7 +37,8 @@ abbrev pub departure_word : Bool → List ℕ
 departure_word true = codes "sent"
 departure_word false = codes "delivered"
 
--- The delay of a copy from its frame's arrival at the first hop to the end of transmission `done`; empty if its source is unknown.
+-- The delay in ns of a copy, from the frame's arrival at the first hop to the end of transmission `done`. Empty if the
+-- frame's source is unknown.
 abbrev pub delay_word : ℕ → Option SourceFrame → List ℕ
 delay_word done None = []
 delay_word done (Some r) = decimal (done - r.came)

@@ -36,12 +36,12 @@ is_nowhere t = nat_eq t.delivered 0 && (nat_eq t.refused 0 && nat_le t.sent_on t
 unfoldable pub why_words : {A : Type 0} → List CopyCounts → List (HopLosses A) → List ℕ
 why_words tallies hops = flat_map hop_words hops ++ (reason_words [] (codes "astray") (sum_by astray tallies) ++ reason_words [] (codes "nowhere") (count_by is_nowhere tallies))
 
--- The line of `net --strict` about a stream that lost frames: numbers and causes.
+-- The `lost:` line of `net --strict` for a stream that lost frames: numbers and causes.
 unfoldable pub lost_words : {A : Type 0} → List ℕ → List CopyCounts → List (HopLosses A) → List ℕ
 lost_words stream tallies hops = codes "lost: stream " ++ (stream ++ (codes ", " ++ (decimal (length tallies - delivered_frames tallies) ++ (codes " of "
     ++ (decimal (length tallies) ++ (codes " frames" ++ (why_words tallies hops ++ codes "\n")))))))
 
--- The line of a stream, if the stream lost a frame.
+-- The `lost:` line of a stream, if the stream lost a frame; otherwise the empty text.
 abbrev pub lost_line : {A : Type 0} → List ℕ → List CopyCounts → List (HopLosses A) → List ℕ
 lost_line stream tallies hops = if nat_eq (delivered_frames tallies) (length tallies) then [] else lost_words stream tallies hops
 
@@ -49,17 +49,20 @@ lost_line stream tallies hops = if nat_eq (delivered_frames tallies) (length tal
 abbrev pub late_in : ℕ → List ℕ → ℕ
 late_in deadline delays = count_by (λ d. nat_lt deadline d) delays
 
--- The line of a stream whose deadline a copy missed. `delays` has the delays of its delivered copies.
+-- The `late:` line of a stream whose deadline a copy missed. `delays` has the delays in ns of the stream's delivered
+-- copies.
 unfoldable pub late_words : List ℕ → List ℕ → ℕ → List ℕ
 late_words stream delays deadline = codes "late: stream " ++ (stream ++ (codes ", " ++ (decimal (late_in deadline delays) ++ (codes " of "
     ++ (decimal (length delays) ++ (codes " delivered copies, worst delay " ++ (decimal (greatest_of delays) ++ (codes " ns, deadline "
     ++ (decimal deadline ++ codes " ns\n")))))))))
 
--- The line of a stream, if the stream has a deadline and one of `delays`, the delays of its delivered copies, exceeds it.
+-- The `late:` line of a stream, if the stream has a deadline and one of `delays` exceeds the deadline; otherwise the
+-- empty text. `delays` has the delays of the delivered copies.
 abbrev pub late_line : List ℕ → List ℕ → Option ℕ → List ℕ
 late_line stream delays None = []
 late_line stream delays (Some deadline) = if nat_eq (late_in deadline delays) 0 then [] else late_words stream delays deadline
 
--- Both lines of a stream: losses, then missed deadline by `delays`. A line is empty if it doesn't apply.
+-- The `lost:` line of a stream, then its `late:` line by `delays`. A line is empty if the stream lost nothing or missed
+-- no deadline.
 unfoldable pub fault_lines : {A : Type 0} → List ℕ → List CopyCounts → List (HopLosses A) → List ℕ → Option ℕ → List ℕ
 fault_lines stream tallies hops delays deadline = lost_line stream tallies hops ++ late_line stream delays deadline

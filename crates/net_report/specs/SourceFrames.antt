@@ -23,7 +23,7 @@ abbrev pub flatten : Option (Option SourceFrame) → Option SourceFrame
 flatten None = None
 flatten (Some r) = r
 
--- The source of the frame with number `n`, from 1, or `None`.
+-- The source of the frame with number `n`, from 1. `None` if the list lacks this number, or if the source is unknown.
 abbrev pub source_frame : List (Option SourceFrame) → ℕ → Option SourceFrame
 source_frame roots n = if nat_eq n 0 then None else flatten (slice_get roots (n - 1))
 
@@ -123,7 +123,7 @@ AddsNoSource old new = (k : ℕ) (y : Option SourceFrame) → slice_get old k �
 abbrev pub IsExhausted : Sender → List Departure → List (Option SourceFrame) → ℕ → List Origin → List (Option SourceFrame) → Type 0
 IsExhausted s sent sent_roots q origins roots = (k : ℕ) (o : Origin) (x : Option SourceFrame) → slice_get origins k ≡ Some o → slice_get roots k ≡ Some x → source_after_tracing s sent sent_roots q o x ≡ x
 
--- Holds if each item of `roots` is the frame with its index, as its own source.
+-- Holds if each item of `roots` is the frame with the item's index, as its own source.
 abbrev pub AreOwnSources : List Origin → List (Option SourceFrame) → Type 0
 AreOwnSources origins roots = (k : ℕ) (x : Option SourceFrame) → slice_get roots k ≡ Some x → (o : Origin) × (slice_get origins k ≡ Some o) × (x ≡ Some (record { number = k + 1; came = o.at }))
 

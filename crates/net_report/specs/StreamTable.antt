@@ -42,7 +42,7 @@ unfoldable pub stream_start : List ℕ → List CopyCounts → List ℕ
 stream_start stream tallies = stream ++ (codes ",all," ++ (decimal (length tallies) ++ (codes "," ++ (decimal (delivered_frames tallies) ++ (codes ","
     ++ (decimal (length tallies - delivered_frames tallies) ++ (codes ",,,,,,,,,,," ++ (decimal (sum_by astray tallies) ++ codes ","))))))))
 
--- True if no copy's delay exceeds the deadline `deadline`; also without any delay.
+-- True if no copy's delay exceeds the deadline `deadline`, in ns; also if no copy was delivered.
 abbrev pub is_below_deadline : Option DelayStatistics → ℕ → Bool
 is_below_deadline None deadline = true
 is_below_deadline (Some f) deadline = nat_le f.greatest deadline

@@ -82,7 +82,7 @@ fn count_at_index(tallies: &mut [CopyCounts], place: usize, fate: CopyFate)
 }
 
 /// Counts one copy or frame with fate `fate` for its source, the first-hop frame `root`. Does nothing if the source is unknown (`None`) or
-/// has number 0. `count_departures`, `count_drops` and others call it.
+/// has number 0. `count_departures`, `count_drops` and 2 more call it.
 fn count_frame(tallies: &mut [CopyCounts], root: Option<SourceFrame>, fate: CopyFate)
     ensures { tallies.new ≡ spec.count_frame fate tallies.old root }
 {
@@ -140,7 +140,7 @@ fn count_drops(tallies: &mut [CopyCounts], roots: &[Option<SourceFrame>], drops:
     }
 }
 
-/// Counts a frame as `Refused` for its first-hop frame `root`, unless its verdict is `Pass`. `count_verdicts` calls it.
+/// Counts a frame as `Refused` for its first-hop frame `root`, unless the verdict is `Pass`. `count_verdicts` calls it.
 fn count_verdict(tallies: &mut [CopyCounts], root: Option<SourceFrame>, verdict: Verdict)
     ensures { tallies.new ≡ spec.with_verdict tallies.old root verdict }
 {

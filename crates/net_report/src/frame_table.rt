@@ -109,8 +109,8 @@ fn departure_word(on: bool) -> &'static str
     if on { "sent" } else { "delivered" }
 }
 
-/// Writes the `frames.csv` row of a copy that left. `on` is true if its port leads to a hop; `at` is the frame's arrival time at this hop.
-/// `put_departures` calls it.
+/// Writes the `frames.csv` row of a copy that left. `on` is true if its port leads to a hop; `at` is the frame's arrival time at this hop
+/// in ns. `put_departures` calls it.
 fn put_departure<A: Allocator>(
     text: &mut TextBuilder<A>,
     stream: &str,
@@ -131,7 +131,7 @@ fn put_departure<A: Allocator>(
     put_delay(text, departure.done, root);
 }
 
-/// Writes the `frames.csv` row of a frame that arrived at time `at`, if it was refused. Passed frames get rows by their copies.
+/// Writes the `frames.csv` row of a frame that arrived at time `at` in ns, if it was refused. Passed frames get rows by their copies.
 /// `put_verdicts` calls it.
 fn put_verdict<A: Allocator>(
     text: &mut TextBuilder<A>,

@@ -50,7 +50,7 @@ pub fn onward_ports<A: Allocator + Copy>(
 /// Returns whether a port leads to a hop. `ways` has the results of `onward_ports` for ports 1 to 16. Returns false for other port numbers.
 /// Copies that leave by other ports are delivered.
 ///
-/// `departure_fate`, `put_departures` and others call it.
+/// `departure_fate`, `put_departures` and 2 more call it.
 pub(crate) fn is_onward(ways: &[bool], port: u8) -> bool
     ensures { result ≡ spec.is_onward ways.now port }
 {

@@ -10,7 +10,7 @@ use bridge_report::{Losses, greatest_delay, put_losses, put_reason};
 use bridge_text::TextBuilder;
 use std::alloc::Allocator;
 
-/// A hop of a stream with its losses. `put_faults` writes them in the line of a stream that lost frames.
+/// A hop of a stream with its losses. `put_faults` writes them in the stream's `lost:` line.
 #[derive(Drop)]
 pub struct HopLosses<A: Allocator> {
     /// Name of the hop, with a space at its end.
@@ -84,7 +84,7 @@ fn put_loss_causes<A: Allocator>(
     put_reason(text, "", "nowhere", count_not_forwarded(tallies) as u128);
 }
 
-/// Writes the line of a stream that lost frames. `put_lost_if` calls it.
+/// Writes the `lost:` line of a stream that lost frames. `put_lost_if` calls it.
 fn put_lost<A: Allocator>(
     text: &mut TextBuilder<A>,
     stream: &str,
@@ -106,7 +106,7 @@ fn put_lost<A: Allocator>(
     text.put("\n");
 }
 
-/// Writes the line of a stream if not all its first-hop frames were delivered. `put_faults` calls it.
+/// Writes the `lost:` line of a stream if not all its first-hop frames were delivered. `put_faults` calls it.
 fn put_lost_if<A: Allocator>(
     text: &mut TextBuilder<A>,
     stream: &str,
@@ -128,7 +128,7 @@ fn count_late(deadline: u64, delays: &[u64]) -> usize
     delays.iter().filter(|delay| deadline < **delay).count()
 }
 
-/// Writes the line of a stream whose deadline a copy missed. `put_late_if` calls it.
+/// Writes the `late:` line of a stream whose deadline, in ns, a copy missed. `put_late_if` calls it.
 fn put_late<A: Allocator>(text: &mut TextBuilder<A>, stream: &str, delays: &[u64], deadline: u64)
     ensures { HasGrown text.old (spec.late_words stream.now delays.now deadline) text.new }
 {
@@ -145,7 +145,7 @@ fn put_late<A: Allocator>(text: &mut TextBuilder<A>, stream: &str, delays: &[u64
     text.put(" ns\n");
 }
 
-/// Writes the line of a stream if it has a deadline and a copy missed it. `put_faults` calls it.
+/// Writes the `late:` line of a stream if it has a deadline, in ns, and a copy missed the deadline. `put_faults` calls it.
 fn put_late_if<A: Allocator>(
     text: &mut TextBuilder<A>,
     stream: &str,

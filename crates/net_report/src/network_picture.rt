@@ -45,7 +45,7 @@ fn put_text(shapes: &mut Shapes, style: &str, at: Point, form: &str, word: &str)
 }
 
 /// Returns the middle of the column of the bridge with index `place`, in pixels. Links, boxes and hops are drawn there. `put_link`,
-/// `put_bridge` and others call it.
+/// `put_bridge` and 2 more call it.
 fn column_middle(place: u16) -> u64 {
     LEFT_MARGIN + COLUMN_WIDTH * u64::from(place) + COLUMN_WIDTH / 2
 }

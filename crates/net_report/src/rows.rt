@@ -34,13 +34,13 @@ fn arrival_time_or(origins: &[StoredOrigin], own: u64, other: u64) -> u64 {
     }
 }
 
-/// Draws the line of a copy that crosses a link, from its end of transmission to its arrival at the next hop. `put_link` calls it.
+/// Draws the line of a copy that crosses a link, from the end of transmission to the arrival at the next hop. `put_link` calls it.
 fn put_crossing(picture: &mut RunPicture, from: Point, to: Point) {
     picture.shapes.draw("link", Element::Line(from, to));
     picture.shapes.end_shape();
 }
 
-/// Returns whether a frame of a hop's record arrived on `port` at time `at`. Binary search: the frames are in order of arrival.
+/// Returns whether a frame of a hop's record arrived on `port` at time `at` in ns. Binary search: the frames are in order of arrival.
 /// `hop_reached` calls it.
 fn has_come<A: Allocator>(view: &View<A>, port: u8, at: u64) -> bool {
     let first = view
@@ -58,8 +58,8 @@ fn has_come<A: Allocator>(view: &View<A>, port: u8, at: u64) -> bool {
     false
 }
 
-/// Returns the index of the first hop at `bridge` whose record has a frame that arrived on `port` at time `at`. Returns `None` without such
-/// a hop. `put_link` calls it.
+/// Returns the index of the first hop at `bridge` whose record has a frame that arrived on `port` at time `at` in ns. Returns `None` if no
+/// hop has one. `put_link` calls it.
 fn hop_reached<A: Allocator>(
     hops: &[HopRun<'_, A>],
     bridge: usize,

@@ -85,7 +85,7 @@ pub(crate) fn time_x(picture: &RunPicture, moment: u64) -> u64 {
 /// Draws an element with a title, which browsers show when the pointer rests on it. The title is `words` with `numbers` and `word` at its
 /// marks.
 ///
-/// `put_window`, `put_hatch` and others call it.
+/// `put_window`, `put_hatch` and 3 more call it.
 pub(crate) fn put_titled(
     picture: &mut RunPicture,
     style: &str,
@@ -101,13 +101,13 @@ pub(crate) fn put_titled(
     shapes.end_shape();
 }
 
-/// Returns the distance of the row with index `row`, from 0, from the top of the picture, in pixels. `put_link`,
-/// `RunPicture::put_open_windows` and others call it.
+/// Returns the distance of the row with index `row`, from 0, from the top of the picture, in pixels. `put_link`, `put_open_windows` and 2
+/// more call it.
 pub(crate) fn row_y(row: u64) -> u64 {
     row.saturating_mul(ROW_HEIGHT).saturating_add(TOP_MARGIN)
 }
 
-/// Returns a bar from time `from` to time `to`, `y` pixels from the top and `height` pixels high. `put_window`, `put_hatch` and
+/// Returns a bar from time `from` to time `to`, in ns, `y` pixels from the top and `height` pixels high. `put_window`, `put_hatch` and
 /// `put_departure` call it.
 pub(crate) fn bar_x_and_width(
     picture: &RunPicture,

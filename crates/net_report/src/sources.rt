@@ -119,7 +119,7 @@ fn due_departures(
 }
 
 /// Returns the source of a hop's frame with number `own`, from 1. Returns `None` if the frame is missing or its source unknown.
-/// `count_departures`, `count_drops` and others call it.
+/// `count_departures`, `count_drops` and 6 more call it.
 pub fn source_frame(roots: &[Option<SourceFrame>], own: u64) -> Option<SourceFrame>
     ensures { result ≡ spec.source_frame roots.now own }
 {
@@ -155,8 +155,8 @@ fn source_over_link(
     }
 }
 
-/// Returns the sender's copies from the first one on that arrives at time `at` or later. From time `since` on, `left` is searched instead
-/// of all copies `sent`. `trace_frame` calls it.
+/// Returns the sender's copies from the first one on that arrives at time `at`, in ns, or later. From time `since` on, `left` is searched
+/// instead of all copies `sent`. `trace_frame` calls it.
 fn resume_due_departures<'a>(
     sender: Sender,
     sent: &'a [StoredDeparture],
@@ -173,8 +173,8 @@ fn resume_due_departures<'a>(
     due_departures(left, sender.from.port, sender.delay, at)
 }
 
-/// Returns a frame's source after tracing, the rest of the sender's copies to search for later frames, and the time from which this rest
-/// suffices. `trace_from_sender` calls it.
+/// Returns a frame's source, the rest of the sender's copies to search for later frames, and the time in ns from which the rest suffices.
+/// `trace_from_sender` calls it.
 fn trace_frame<'a>(
     sender: Sender,
     sent: &'a [StoredDeparture],

@@ -126,7 +126,7 @@ pub fn hop_line<A: Allocator + Copy>(
 }
 
 /// Returns the number of delivered first-hop frames: a copy was delivered, and no copy was refused, dropped or astray. `put_lost`,
-/// `put_lost_if` and functions of `app_networks` call it.
+/// `put_stream_rows` of `app_networks` and 3 more call it.
 pub fn delivered_frames(tallies: &[CopyCounts]) -> usize
     ensures { result ≡ spec.delivered_frames tallies.now }
 {
@@ -155,7 +155,7 @@ fn put_stream_start<A: Allocator>(text: &mut TextBuilder<A>, stream: &str, talli
     put_wide_with_suffix(text, total_astray(tallies), ",");
 }
 
-/// Returns whether no copy's delay exceeds a deadline. Returns true if no copy was delivered. `is_deadline_met` calls it.
+/// Returns whether no copy's delay exceeds a deadline in ns. Returns true if no copy was delivered. `is_deadline_met` calls it.
 fn is_below_deadline(figures: Option<DelayStatistics>, deadline: u64) -> bool
     ensures { result ≡ spec.is_below_deadline figures deadline }
 {
@@ -165,7 +165,7 @@ fn is_below_deadline(figures: Option<DelayStatistics>, deadline: u64) -> bool
     }
 }
 
-/// Returns whether all frames of a stream were delivered, and no copy's delay exceeds a deadline. `put_deadline` calls it.
+/// Returns whether all frames of a stream were delivered, and no copy's delay exceeds a deadline in ns. `put_deadline` calls it.
 fn is_deadline_met(tallies: &[CopyCounts], figures: Option<DelayStatistics>, deadline: u64) -> bool
     ensures { result ≡ spec.is_deadline_met tallies.now figures deadline }
 {
@@ -236,8 +236,10 @@ fn put_margin<A: Allocator>(text: &mut TextBuilder<A>, deadline: Option<u64>, wo
     }
 }
 
-/// Returns the row of a whole stream in `streams.csv`, with its bound and deadline. `figures` is `None` if no copy was delivered, `worst`
-/// if the talker's worst delay is unknown. `write_stream` calls it.
+/// Returns the `streams.csv` row of a stream; its hops have rows of their own. All times are in ns.
+///
+/// `figures` is `None` if no copy was delivered, `deadline` if the stream has none, `worst` if the talker's worst delay is unknown.
+/// `write_stream` calls it.
 pub fn stream_line<A: Allocator + Copy>(
     alloc: A,
     stream: &str,
@@ -262,7 +264,7 @@ pub fn stream_line<A: Allocator + Copy>(
     text.finish()
 }
 
-/// Writes a number and a suffix, such as the comma after a field. `put_source_frame`, `put_line_start` and others call it.
+/// Writes a number and a suffix, such as the comma after a field. `put_source_frame`, `put_line_start` and 9 more call it.
 pub(crate) fn put_number_with_suffix<A: Allocator>(
     text: &mut TextBuilder<A>,
     number: u64,
@@ -274,7 +276,7 @@ pub(crate) fn put_number_with_suffix<A: Allocator>(
     text.put(end);
 }
 
-/// Writes a number of 128 bits and a suffix, such as the comma after a field. `put_statistics`, `put_hop_start` and others call it.
+/// Writes a number of 128 bits and a suffix, such as the comma after a field. `put_statistics`, `put_hop_start` and 3 more call it.
 pub(crate) fn put_wide_with_suffix<A: Allocator>(text: &mut TextBuilder<A>, number: u128, end: &str)
     ensures { HasGrown text.old (decimal number ++ end.now) text.new }
 {

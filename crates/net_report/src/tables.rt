@@ -107,7 +107,8 @@ fn rows_of_hop<A: Allocator + Copy>(
     Ok(HopRows { row, lines })
 }
 
-/// Writes the rows of hop `hop` to both tables: first to `streams`, then to `frames`. `write_hops` calls it.
+/// Writes the rows of hop `hop` to both tables: first to `streams`, then to `frames`. Fails with `Broken` and the table if a table can't be
+/// written, or with `NoMemory`. `write_hops` calls it.
 fn write_hop<A: Allocator + Copy, V: Write, W: Write>(
     alloc: A,
     links: &[Link],
@@ -127,7 +128,8 @@ fn write_hop<A: Allocator + Copy, V: Write, W: Write>(
     put_table(frames, lines.as_str(), Table::Frames)
 }
 
-/// Writes the rows of a stream's hops to both tables (`streams` and `frames`), hop by hop. `write_stream` calls it.
+/// Writes the rows of a stream's hops to both tables (`streams` and `frames`), hop by hop. Fails with `Broken` and the table if a table
+/// can't be written, or with `NoMemory`. `write_stream` calls it.
 fn write_hops<A: Allocator + Copy, V: Write, W: Write>(
     alloc: A,
     links: &[Link],
@@ -198,7 +200,8 @@ pub fn stream_delays<A: Allocator + Copy>(
 }
 
 /// Writes the rows of a stream: the stream and each hop to `streams`, each frame at each hop to `frames`. `known` has the frames' sources.
-/// `app_networks` calls it for each stream.
+///
+/// Fails with `Broken` and the table if a table can't be written, or with `NoMemory`. `app_networks` calls it for each stream.
 pub fn write_stream<A: Allocator + Copy, V: Write, W: Write>(
     alloc: A,
     links: &[Link],

@@ -9,7 +9,7 @@ use std::alloc::Allocator;
 /// schedule change.
 const MAX_TURNS: usize = 8 * MAX_ENTRIES;
 
-/// Returns whether the gate control lists open a class at time `at`. `put_windows`, `count_windows` and `next_gate_change` call it.
+/// Returns whether the gate control lists open a class at time `at` in ns. `put_windows`, `count_windows` and `next_gate_change` call it.
 pub(crate) fn is_class_open<A: Allocator + Copy>(list: &Egress<A>, class: u8, at: u64) -> bool
     requires class { class < 8 }
     requires soon { at < END_OF_TURNS }
@@ -36,8 +36,10 @@ fn active_list<A: Allocator + Copy>(list: &Egress<A>, at: u64) -> (u64, u64)
     }
 }
 
-/// Returns the number of times that a class opens after time `after` and up to time `to`. The caller ensures that this is at most one cycle
-/// of a list. `count_list_openings` and `count_windows` call it.
+/// Returns the number of times that a class opens after time `after` and up to time `to`, both in ns. The caller ensures that this is at
+/// most one cycle of a list.
+///
+/// `count_list_openings` and `count_windows` call it.
 fn count_openings<A: Allocator + Copy>(list: &Egress<A>, class: u8, after: u64, to: u64) -> u64
     requires class { class < 8 }
     requires soon { to < END_OF_TURNS }
@@ -63,8 +65,8 @@ fn count_openings<A: Allocator + Copy>(list: &Egress<A>, class: u8, after: u64, 
     count
 }
 
-/// Returns the number of times that a class opens after time `after` and up to time `to`, while one list is in force. It counts one cycle
-/// and multiplies. `count_windows` calls it.
+/// Returns the number of times that a class opens after time `after` and up to time `to` in ns, while one list is in force. The function
+/// counts one cycle and multiplies. `count_windows` calls it.
 fn count_list_openings<A: Allocator + Copy>(
     list: &Egress<A>,
     class: u8,
@@ -111,8 +113,8 @@ pub(crate) fn count_windows<A: Allocator + Copy>(list: &Egress<A>, class: u8, sp
     count
 }
 
-/// Returns the first time after `from` at which a class opens or closes, but at most `end`. If nothing changes for a cycle, continues with
-/// the next list. `put_windows` calls it.
+/// Returns the first time in ns after `from` at which a class opens or closes, but at most `end`. If nothing changes for a cycle, continues
+/// with the next list. `put_windows` calls it.
 pub(crate) fn next_gate_change<A: Allocator + Copy>(
     list: &Egress<A>,
     class: u8,

@@ -33,8 +33,8 @@ AppendsDelayedRecord delay octets old new rest =
 abbrev pub word_at : List ℕ → ℕ → ℕ
 word_at octets at = from_le_bytes w32 (take 4 (drop at octets))
 
--- The first record of `octets`, with `captured` octets of its frame and its time delayed by `delay` ns. All octets after the record's time
--- are unchanged.
+-- The first record of `octets`, with `captured` octets of the frame, and with the record's time delayed by `delay` ns.
+-- All octets after the record's time are unchanged.
 abbrev pub delayed_octets : ℕ → ℕ → List ℕ → List ℕ
 delayed_octets delay captured octets = time_words (delayed_time (word_at octets 0 * 1000000000 + word_at octets 4) delay) ++ take (16 + captured - 8) (drop 8 octets)
 

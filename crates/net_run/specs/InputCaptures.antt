@@ -9,7 +9,7 @@ abbrev pub input_octets : List ℕ → Option MemoryDevice → ℕ → List ℕ
 input_octets octets None delay = octets
 input_octets octets (Some sent) delay = delayed_text delay sent.octets
 
--- The octets of an optional sent capture; empty without one.
+-- The octets of an optional sent capture; empty if there is no capture.
 abbrev pub sent_octets : Option MemoryDevice → List ℕ
 sent_octets None = []
 sent_octets (Some sent) = sent.octets

@@ -57,8 +57,8 @@ pub(crate) struct RunOutput<A: Allocator + Copy> {
     taps: Vec<VecSink<A>, A>,
 }
 
-/// Runs the bridge of an accepted plan over these commands and input captures. `texts` has one capture for each port in `ports`.
-/// `run_over_inputs` calls it.
+/// Runs the bridge of an accepted plan over these commands and input captures. `texts` has one capture for each port in `ports`. Fails if a
+/// capture is refused or memory runs out. `run_over_inputs` calls it.
 pub(crate) fn run_bridge<A: Allocator + Copy>(
     alloc: A,
     accepted: &Accepted<A>,
@@ -107,7 +107,9 @@ fn as_memory_fault(fault: RunFault) -> RunFault
 }
 
 /// Runs a bridge over copies of its input captures, one for each port in `ports`. Returns its result, and the captures of the frames that
-/// each port sent. `run` calls it.
+/// each port sent.
+///
+/// Fails if a capture is refused or memory runs out. `run` calls it.
 fn run_over_inputs<A: Allocator + Copy>(
     alloc: A,
     accepted: &Accepted<A>,
@@ -408,7 +410,9 @@ impl<'a, A: Allocator + Copy> BridgeRun<'a, A> {
     }
 
     /// Runs the bridge over its inputs, and stores its result and sent captures, unless it has a result for these inputs. Returns whether
-    /// it ran. `run_bridges` calls it in each round.
+    /// it ran. Fails if a capture is refused or memory runs out.
+    ///
+    /// `run_bridges` calls it in each round.
     pub(crate) fn run(&mut self, alloc: A) -> Result<bool, RunFault>
         ensures same { OnOk result ((constant_part self.new ≡ constant_part self.old)
             × (self.new.texts ≡ self.old.texts)) }

@@ -37,8 +37,10 @@ pub enum RoundsFault {
     /// Bridge `bridge`, an index from 0, refuses a capture: it is the first bridge of the round with a fault. `fault` is never a failed
     /// read or write, because all captures are in memory.
     Bridge { bridge: usize, fault: RunFault },
-    /// In the last allowed round, the input of linked port `port` of bridge `bridge`, an index from 0, still changed. It is the first such
-    /// port. With 0 rounds, both numbers are 0.
+    /// In the last allowed round, the input of linked port `port` of bridge `bridge`, an index from 0, still changed. It is the first port
+    /// whose input still changed.
+    ///
+    /// With 0 rounds, both numbers are 0.
     NotSettled { bridge: usize, port: u8 },
     /// Memory ran out.
     NoMemory,
@@ -141,7 +143,7 @@ fn feed_port<A: Allocator + Copy>(
 }
 
 /// Delivers to each linked port of bridge `bridge` the frames that senders sent in this round (`ran`). Returns the first port whose input
-/// changed, or `None`. `feed_bridges` calls it.
+/// changed, or `None` if no input changed. `feed_bridges` calls it.
 fn feed_bridge<A: Allocator + Copy>(
     alloc: A,
     stations: &mut [BridgeRun<'_, A>],
@@ -334,7 +336,9 @@ fn assert_bridge_runs<A: Allocator + Copy>(stations: &[BridgeRun<'_, A>])
 }
 
 /// Runs round `turn`: each bridge with changed inputs runs, and each linked port gets the frames sent to it. Returns the first bridge and
-/// port whose input changed, if any. `run_network` calls it.
+/// port whose input changed, if any.
+///
+/// Fails if a bridge refuses a capture, or if memory runs out. `run_network` calls it.
 fn run_round<A: Allocator + Copy, W: RoundObserver>(
     alloc: A,
     stations: &mut [BridgeRun<'_, A>],
@@ -368,7 +372,8 @@ fn assert_network<A: Allocator + Copy>(network: &Network<A>)
 /// Runs a network in at most `rounds` rounds, until each link delivers exactly the frames that its sender sent. If an input still changes
 /// after the last round, returns `NotSettled`.
 ///
-/// `watch` gets a report before each bridge's run. `run_network_folders` of `app_networks` calls it for `net`.
+/// `watch` gets a report before each bridge's run. Fails if a bridge refuses a capture, or if memory runs out. `run_network_folders` of
+/// `app_networks` calls it for `net`.
 pub fn run_network<A: Allocator + Copy, W: RoundObserver>(
     alloc: A,
     network: &Network<A>,
@@ -405,7 +410,8 @@ pub fn run_network<A: Allocator + Copy, W: RoundObserver>(
     Err(RoundsFault::NotSettled { bridge, port })
 }
 
-/// Returns the results of the bridges after the last round, with the number of rounds. `run_network` calls it.
+/// Returns the results of the bridges after the last round, with the number of rounds. Fails only if memory runs out. `run_network` calls
+/// it.
 fn finish_bridges<A: Allocator + Copy>(
     alloc: A,
     stations: Vec<BridgeRun<'_, A>, A>,

@@ -8,8 +8,8 @@ use bridge_limits::NoMemory;
 use bridge_text::{Said, TextBuilder, fill_with_word, finish_with_path, nearest_name, put_text};
 use std::alloc::Global;
 
-/// Returns the name of an option, with its `--` and without `=` and its value. Returns `None` if the argument isn't an option.
-/// `unknown_option`, `first_operand` and others call it.
+/// Returns the name of an option, with the `--`, without `=` and the value. Returns `None` if the argument isn't an option.
+/// `unknown_option`, `first_operand` and 4 more call it.
 fn option_name(word: &str) -> Option<&str> {
     if !word.starts_with("--") || word == "--" {
         return None;
@@ -48,7 +48,7 @@ pub fn explain_part(alloc: Global, path: &str) -> Result<String, NoMemory>
     finish_with_path(alloc, path, said)
 }
 
-/// Returns whether option `name`, with its `--`, needs a value. Returns `None` if no command has such an option. `unknown_option`,
+/// Returns whether option `name`, with its `--`, needs a value. Returns `None` if no command has the option. `unknown_option`,
 /// `count_operands` and `option_fault` call it.
 fn has_option_value(name: &str) -> Option<bool> {
     match name.strip_prefix("--") {
@@ -57,8 +57,8 @@ fn has_option_value(name: &str) -> Option<bool> {
     }
 }
 
-/// Returns the first option among the arguments that no command has, or `None`. Arguments after `--` aren't options. `explain_arguments`
-/// calls it.
+/// Returns the first option among the arguments that no command has. `None` if every option belongs to a command. Arguments after `--`
+/// aren't options. `explain_arguments` calls it.
 fn unknown_option(words: &[String]) -> Option<&str> {
     for word in words {
         if word.as_str() == "--" {
@@ -176,8 +176,8 @@ fn called_option(part: &str) -> &str {
     }
 }
 
-/// Returns whether a command has option `name`, with its `--`, by its usage line. Every command has `--explain`. `option_fault` and
-/// `put_options` call it.
+/// Returns whether a command has option `name`, with the option's `--`, by the command's usage line. Every command has `--explain`.
+/// `option_fault` and `put_options` call it.
 fn has_option(call: &Usage, name: &str) -> bool {
     if name == "--explain" {
         return true;
@@ -212,8 +212,8 @@ fn is_value(word: Option<&String>) -> bool {
     }
 }
 
-/// Returns why option `name`, the argument with index `place`, is refused, or `None`. `is_early` is true if the command comes later.
-/// `wrong_option` calls it.
+/// Returns why option `name`, the argument with index `place`, is refused. `None` if the option isn't at fault. `is_early` is true if the
+/// command comes later. `wrong_option` calls it.
 fn option_fault(
     words: &[String],
     place: usize,
@@ -306,7 +306,7 @@ fn reason_alone(reason: &'static str) -> &'static str {
     }
 }
 
-/// Writes why arguments of the right number are refused: the option at fault or, without one, the command's own reason.
+/// Writes why arguments of the right number are refused: the option at fault, or the command's own reason if no option is at fault.
 /// `put_command_refusal` calls it.
 fn put_reason(said: &mut Said, words: &[String], call: &Usage) {
     match wrong_option(words, call) {

@@ -59,7 +59,7 @@ pub(crate) fn key_value<'a>(table: Option<&'a Table>, key: Field) -> Option<&'a 
 /// Writes the position of instance `index`, from 1, of a section, or of its key `key`, and the instance's number or address. Explanations
 /// of plan faults begin with this position.
 ///
-/// `put_refused_list`, `put_misplaced_key` and others call it.
+/// `put_refused_list`, `put_misplaced_key` and 3 more call it.
 pub(crate) fn put_instance_position(
     said: &mut Said,
     source: SourceText<'_>,

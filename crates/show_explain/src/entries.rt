@@ -51,8 +51,8 @@ fn first_flawed_key(keys: &'static [KeyRule], entry: &Table) -> Option<&'static 
     None
 }
 
-/// Writes the first item of list `list` that isn't a table. Without such an item, writes the first wrong key of an entry, its value and the
-/// allowed values. `put_key_fault` calls it.
+/// Writes the first item of list `list` that isn't a table. If every item is a table, writes the first wrong key of an entry, its value and
+/// the allowed values. `put_key_fault` calls it.
 pub(crate) fn put_entry_flaws(
     said: &mut Said,
     keys: &'static [KeyRule],
@@ -118,7 +118,7 @@ fn is_list_refused(
     }
 }
 
-/// Writes why a list of instance `index` is refused. Finds the list with this fault; without one, takes the section's first list.
+/// Writes why a list of instance `index` is refused. Finds the list with this fault; if no list has it, takes the section's first list.
 /// `put_fault` calls it.
 pub(crate) fn put_refused_list(
     alloc: Global,
@@ -164,7 +164,7 @@ fn refusal_sentence(fault: ListFault) -> &'static str {
     }
 }
 
-/// Writes why a list with this cycle and these entries is refused: fills the sentence with their values. `put_refused_list` calls it.
+/// Writes why a list with this cycle time in ns and these entries is refused. `put_refused_list` calls it.
 fn put_list_refusal(
     said: &mut Said,
     keys: ListKeys,

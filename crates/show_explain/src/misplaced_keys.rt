@@ -11,7 +11,7 @@ use bridge_text::{
 use std::alloc::Global;
 use toml::{Table, Value};
 
-/// Returns the rule in `keys` of the key with spelling `name`, or `None` if the table has no such key. `first_misplaced_key`,
+/// Returns the rule in `keys` of the key with spelling `name`, or `None` if the table has no key with this spelling. `first_misplaced_key`,
 /// `put_misplaced_table_key` and `put_key_fault` call it.
 pub(crate) fn find_key(keys: &'static [KeyRule], name: &str) -> Option<&'static KeyRule> {
     for key in keys {

@@ -11,7 +11,7 @@ use net_file::{
 };
 use toml::Value;
 
-/// Returns instance `index`, counted from 1, of a section of a network or traffic file. `put_net_place`, `put_unknown_bridge` and others
+/// Returns instance `index`, counted from 1, of a section of a network or traffic file. `put_net_place`, `put_unknown_bridge` and 3 more
 /// call it.
 pub(crate) fn net_instance<'a>(
     document: Document<'a>,
@@ -28,7 +28,7 @@ pub(crate) fn net_instance<'a>(
 /// Writes the position of instance `index`, from 1, of a section, or of its key `key`, and the instance's name, ends or filter.
 /// Explanations in `network` begin with this position.
 ///
-/// `put_net_fault`, `put_stray_key` and others call it.
+/// `put_net_fault`, `put_stray_key` and 3 more call it.
 pub(crate) fn put_net_place(
     said: &mut Said,
     document: Document<'_>,
@@ -161,8 +161,8 @@ fn allowed_number(instance: Instance<'_>, field: NetField) -> Option<u64> {
     }
 }
 
-/// Returns the key that limits `field` from below, its value, and the least value of `field`. Returns `None` without such a key, or if the
-/// key's value isn't allowed. `put_range` calls it.
+/// Returns the key that limits `field` from below, its value, and the least value of `field`. Returns `None` if no key limits `field`, or
+/// if the key's value isn't allowed. `put_range` calls it.
 fn lower_limit(instance: Instance<'_>, field: NetField) -> Option<(NetField, u64, u64)> {
     let (key, more) = match field {
         NetField::Period => (NetField::From, 1),
@@ -174,8 +174,9 @@ fn lower_limit(instance: Instance<'_>, field: NetField) -> Option<(NetField, u64
     Some((key, value, value.saturating_add(more)))
 }
 
-/// Returns the key that limits `field` from above (period or burst), its value, and the greatest value of `field`. Returns `None` without
-/// such a key, or if its value is missing or doesn't limit.
+/// Returns the key that limits `field` from above (period or burst), its value, and the greatest value of `field`.
+///
+/// Returns `None` if no key limits `field`, or if the key's value is missing or doesn't limit.
 ///
 /// `put_range` calls it.
 fn upper_limit(instance: Instance<'_>, field: NetField) -> Option<(NetField, u64, u64)> {

@@ -221,7 +221,7 @@ fn excluded_key(table: &Table) -> Option<(NetField, NetField)> {
     None
 }
 
-/// Returns the first of these keys that a table has, or `None`. `excluded_key` calls it.
+/// Returns the first of these keys that a table has. `None` if the table has none of them. `excluded_key` calls it.
 fn first_present(table: &Table, keys: &[NetField]) -> Option<NetField> {
     for key in keys {
         if get_value(table, key.key()).is_some() {

@@ -123,7 +123,7 @@ fn allowed_value(
     }
 }
 
-/// Writes the times of command `index` and of the command before it, if they aren't in order. Writes nothing without a time `at`.
+/// Writes the times in ns of command `index` and of the command before it, if they aren't in order. Writes nothing without a time `at`.
 /// `put_key_fault` calls it.
 fn put_falling_times(said: &mut Said, source: SourceText<'_>, index: u32, at: Option<u64>) {
     let before = previous_command_time(source, index);

@@ -14,7 +14,7 @@ covers (Some one) (Some other) = nat_eq one other
 abbrev pub covers_filter : FilterPlan → FilterPlan → Bool
 covers_filter one other = covers one.handle other.handle && covers one.priority other.priority
 
--- The number of the first filter below `n` that matches every frame of `filter`, or `None`.
+-- The number of the first filter below `n` that matches every frame of `filter`. `None` if no filter does.
 abbrev pub first_hiding_filter : FilterPlan → ℕ → List (ℕ × FilterPlan) → Option ℕ
 first_hiding_filter filter n [] = None
 first_hiding_filter filter n (f ∷ fs) = if nat_lt f.0 n && covers_filter f.1 filter then Some f.0 else first_hiding_filter filter n fs
@@ -37,7 +37,8 @@ has_meter m f = is_meter m f.meter
 abbrev pub takes_at : ℕ → FilterPlan → FilterPlan → Bool
 takes_at k one other = covers one.handle other.handle && is_priority_match one.priority k
 
--- The number of the first filter below `n` that matches every frame of `filter` with priority `k`, or `None`.
+-- The number of the first filter below `n` that matches every frame of `filter` with priority `k`. `None` if no filter
+-- does.
 abbrev pub taker_at : FilterPlan → ℕ → ℕ → List (ℕ × FilterPlan) → Option ℕ
 taker_at filter n k [] = None
 taker_at filter n k (f ∷ fs) = if nat_lt f.0 n && takes_at k f.1 filter then Some f.0 else taker_at filter n k fs
@@ -56,7 +57,7 @@ abbrev pub are_all_taken : FilterPlan → ℕ → List (ℕ × FilterPlan) → B
 are_all_taken filter n fs = is_taken_at filter n 0 fs && is_taken_at filter n 1 fs && is_taken_at filter n 2 fs && is_taken_at filter n 3 fs
     && is_taken_at filter n 4 fs && is_taken_at filter n 5 fs && is_taken_at filter n 6 fs && is_taken_at filter n 7 fs
 
--- The number of the first protected or grouped filter that uses stream gate `gate`, or `None`.
+-- The number of the first protected or grouped filter that uses stream gate `gate`. `None` if no filter does.
 abbrev pub tested_with : ℕ → List (ℕ × FilterPlan) → Option ℕ
 tested_with gate [] = None
 tested_with gate (f ∷ fs) = if nat_eq f.1.gate gate && is_tested f.1 then Some f.0 else tested_with gate fs

@@ -187,8 +187,8 @@ fn put_no_catch_all(said: &mut LintText, filters: &[(u32, FilterPlan)], number: 
     put_shared_part(said, filters, NO_CATCH_ALL, number, greatest, 0);
 }
 
-/// Returns the number of the first filter, other than `number`, that uses stream gate `gate`, or `None`. `put_shared_gate` names this
-/// filter.
+/// Returns the number of the first filter, other than `number`, that uses stream gate `gate`. `None` if no other filter uses the gate.
+/// `put_shared_gate` names this filter.
 fn other_with_gate(filters: &[(u32, FilterPlan)], number: u32, gate: u32) -> Option<u32>
     ensures { result ≡ spec.first_other_filter (λ f. nat_eq f.gate gate) number filters.now }
 {
@@ -210,7 +210,8 @@ fn has_meter(filter: &FilterPlan, meter: u32) -> bool
     }
 }
 
-/// Returns the number of the first filter, other than `number`, that uses meter `meter`, or `None`. `put_shared_meter` names this filter.
+/// Returns the number of the first filter, other than `number`, that uses meter `meter`. `None` if no other filter uses the meter.
+/// `put_shared_meter` names this filter.
 fn other_with_meter(filters: &[(u32, FilterPlan)], number: u32, meter: u32) -> Option<u32>
     ensures { result ≡ spec.first_other_filter (spec.has_meter meter) number filters.now }
 {
@@ -353,8 +354,10 @@ fn shared_entry_state(entries: &[(u8, u64)], class: u8, at: u64) -> Option<u8>
     None
 }
 
-/// Returns the state at offset `at` in ns that opens `class` and another class, or `None`. The flag is true if only the port's new list has
-/// it. `shared_state_of_port` calls it.
+/// Returns the gate state of a port's list at offset `at` ns that opens `class` and another class. `None` if no entry that starts there
+/// does.
+///
+/// The flag is true if only the port's new list has it. `shared_state_of_port` calls it.
 fn shared_state<A: Allocator + Copy>(port: &PortPlan<A>, class: u8, at: u64) -> Option<(u8, bool)>
     requires { class < 8 }
 {
@@ -373,7 +376,8 @@ fn shared_state<A: Allocator + Copy>(port: &PortPlan<A>, class: u8, at: u64) -> 
 
 /// Returns the gate state at offset `at` ns of port `port` that opens `class` and another class, and whether only the new list has it.
 ///
-/// `put_window` calls it; for `None` (no such port, list, entry or class) it writes that the port has no gate control list.
+/// Returns `None` if the port, its list, the entry or the class is missing. `put_window` calls the function; for `None` it writes that the
+/// port has no gate control list.
 fn shared_state_of_port<A: Allocator + Copy>(
     plan: &Plan<A>,
     port: u8,

@@ -9,8 +9,8 @@ use bridge_config::{Plan, PortPlan};
 use bridge_cycle::{Run, longest_run};
 use std::alloc::{AllocError, Allocator};
 
-/// Returns the number of the first unprotected filter whose frames can enter the queue of class `class` at port `port`, or `None`.
-/// `find_class` calls it.
+/// Returns the number of the first unprotected filter whose frames can enter the queue of class `class` at port `port`. `None` if no frames
+/// of an unprotected filter can. `find_class` calls it.
 fn first_waiting_filter<A: Allocator + Copy>(plan: &Plan<A>, port: u8, class: u8) -> Option<u32>
     requires from { 1 ≤ port }
     requires to { port ≤ 16 }
@@ -56,7 +56,7 @@ fn find_class<A: Allocator + Copy>(
 }
 
 /// Adds a warning for each class that never opens, if frames of an unprotected filter can enter its queue. For protected filters, `check`
-/// refuses such a plan. `find_plan_warnings` calls it.
+/// refuses a plan with a closed class. `find_plan_warnings` calls it.
 pub(crate) fn find_closed_classes<A: Allocator + Copy>(
     found: &mut Vec<Warning>,
     plan: &Plan<A>,

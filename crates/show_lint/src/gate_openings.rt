@@ -69,7 +69,7 @@ pub(crate) fn change_stages(is_changed: bool) -> &'static [ScheduleStage] {
     }
 }
 
-/// Greatest load of a filter: its longest frames, back to back on each link by which its streams enter.
+/// Greatest load of a filter: the filter's longest frames, back to back on each link by which the filter's streams enter.
 #[derive(Clone, Copy)]
 pub(crate) struct OfferedLoad {
     /// SDU octets of a longest frame.

@@ -74,8 +74,8 @@ struct Sharers {
 }
 
 impl Sharers {
-    /// Adds a filter's share: the octets and the rate that its meter passes, and its longest frame. `number` is the filter's number.
-    /// `queue_sharers` calls it for each filter that shares the queue.
+    /// Adds a filter's share: the octets and the rate that the filter's meter passes, and the filter's longest frame. `number` is the
+    /// filter's number. `queue_sharers` calls it for each filter that shares the queue.
     fn add<A: Allocator + Copy>(&mut self, plan: &Plan<A>, number: u32, filter: &FilterPlan) {
         self.count = self.count.saturating_add(1);
         self.sdu = self.sdu.max(filter.max_sdu.unwrap_or(0));
@@ -125,7 +125,7 @@ fn is_in_group(filter: &FilterPlan, group: u32) -> bool {
     }
 }
 
-/// Returns the number of the first filter in the group; 0 without one. `put_filters` calls it.
+/// Returns the number of the first filter in the group; 0 if the group has no filter. `put_filters` calls it.
 pub(crate) fn first_of_group(filters: &[(u32, FilterPlan)], group: u32) -> u32 {
     for (number, filter) in filters {
         if is_in_group(filter, group) {

@@ -190,7 +190,7 @@ fn find_unmatched(
     find_hiders(found, earlier, &asked, place)
 }
 
-/// Adds a warning for each stream that matches no frame, because of its port's VLAN or because earlier streams match all its frames.
+/// Adds a warning for each stream that matches no frame, because of the port's VLAN, or because earlier streams match all its frames.
 /// `find_plan_warnings` calls it.
 pub(crate) fn find_hidden_streams<A: Allocator + Copy>(
     found: &mut Vec<Warning>,

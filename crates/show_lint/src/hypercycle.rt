@@ -21,7 +21,7 @@ fn greatest_common_divisor(one: u64, other: u64) -> u64 {
     larger
 }
 
-/// Returns after how many cycles of `cycle` ns such a cycle and a cycle of `port_cycle` ns begin together again; 0 if both are 0.
+/// Returns after how many cycles of `cycle` ns both cycles, of `cycle` and `port_cycle` ns, begin together again; 0 if both are 0.
 /// `aligned_period` and `waits_by_cycle` call it.
 pub(crate) fn cycles_until_aligned(port_cycle: u64, cycle: u64) -> u64 {
     let divisor = greatest_common_divisor(port_cycle, cycle);
@@ -51,8 +51,8 @@ pub struct Hypercycle {
 }
 
 impl Hypercycle {
-    /// Computes the hypercycle of a plan's lists: pictures of plans show this time by default. `idle_change` and functions of
-    /// `app_commands` and `show_picture` call it.
+    /// Computes the hypercycle of a plan's lists: pictures of plans show this time by default. `idle_change`, `put_late` of `app_commands`
+    /// and 2 more call it.
     pub fn from_plan<A: Allocator + Copy>(plan: &Plan<A>) -> Hypercycle {
         let mut times = Hypercycle {
             length: 0,

@@ -20,7 +20,7 @@ fn metered_octets(length: u32) -> u32 {
     length.max(60).saturating_add(4)
 }
 
-/// Returns the meter with number `number`, or `None`. `add` and `find_meter_warnings` call it.
+/// Returns the meter with number `number`. `None` if the list lacks it. `add` and `find_meter_warnings` call it.
 pub(crate) fn find_meter(meters: &[(u32, MeterPlan)], number: u32) -> Option<MeterPlan> {
     for meter in meters {
         if meter.0 == number {

@@ -24,7 +24,7 @@ pub fn is_not_forwarded<A: Allocator + Copy>(plan: &Plan<A>, stream: &StreamEntr
         .is_empty()
 }
 
-/// Returns the ports of the static entry for VLAN `vid` and an address, or `None` without such an entry. `not_forwarded_cause`,
+/// Returns the ports of the static entry for VLAN `vid` and an address, or `None` if there is no entry. `not_forwarded_cause`,
 /// `find_non_member_ports` and `find_flooded` call it.
 fn static_ports(statics: &[StaticEntry], vid: u16, address: [u8; 6]) -> Option<PortSet>
     ensures { result ≡ static_ports statics.now vid address }
@@ -43,7 +43,8 @@ fn is_reserved(address: [u8; 6]) -> bool {
     [a, b, c, d, e] == RESERVED && last <= 15
 }
 
-/// Returns the first port of `set` other than `own`, or `None`. `vlan_cause`, `static_entry_cause` and `are_several` call it.
+/// Returns the first port of `set` other than `own`. `None` if the set has no other port. `vlan_cause`, `static_entry_cause` and
+/// `are_several` call it.
 fn other_port(set: PortSet, own: u8) -> Option<u8> {
     for port in 1..17u8 {
         if port != own && set.has(port) {

@@ -176,8 +176,10 @@ fn put_bound<A: Allocator + Copy>(
     }
 }
 
-/// Writes the bounds by octet limits that are below `bound`, the bound by capacity. One is for any capture, one for frames of at least 60
-/// octets. `put_classes` calls it for each reachable queue.
+/// Writes the two bounds by octet limits if they are below `bound`, the bound by capacity in ns. One bound is for any capture, one for
+/// frames of at least 60 octets.
+///
+/// `put_classes` calls it for each reachable queue.
 fn put_gate_bounds<A: Allocator + Copy>(
     said: &mut LintText,
     accepted: &Accepted<A>,

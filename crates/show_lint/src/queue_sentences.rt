@@ -39,7 +39,7 @@ const CYCLES: &str =
     "gate {0} of filter {1} has a cycle of {2} ns, and port {3} has {4} ns. Neither is a multiple of the other, so the delay pattern repeats only every {5} ns. Make one cycle a multiple of the other.\n";
 
 /// Returns the start of a warning's sentence: `Warning: `, and whether the old or the new schedule is concerned, if the schedule changes.
-/// `put_low_rate`, `put_overload` and others call it.
+/// `put_low_rate`, `put_overload` and 4 more call it.
 fn stage_prefix(stage: ScheduleStage) -> &'static str {
     match stage {
         ScheduleStage::Always => "Warning: ",

@@ -11,7 +11,7 @@ use std::alloc::{AllocError, Allocator};
 /// A wait gives a warning only if it is at least the port's cycle divided by this number. Shorter waits are usual.
 const PART_OF_CYCLE: u64 = 4;
 
-/// Queue of a protected filter at one stage of the schedule, with the times of its stream gate and the list of its port.
+/// Queue of a protected filter at one stage of the schedule, with the times of the stream gate and the list of the port.
 #[derive(Drop)]
 pub(crate) struct ScheduledQueue<'a, A: Allocator + Copy> {
     /// Queue, filter and stream gate that a warning names.

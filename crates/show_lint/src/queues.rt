@@ -27,7 +27,9 @@ struct ProtectedFilter<'a, A: Allocator + Copy> {
     feed: OfferedLoad,
 }
 
-/// Adds warnings about each queue of protected filter `number`. Does nothing if the filter lacks a handle, a largest SDU or a stream gate.
+/// Adds warnings about the queues of protected filter `number`: overload, small capacity, long waits and cycles that don't match. Does
+/// nothing if the filter lacks a handle, a largest SDU or a stream gate.
+///
 /// `find_plan_warnings` calls it.
 pub(crate) fn find_queues<A: Allocator + Copy>(
     alloc: Global,
@@ -173,8 +175,8 @@ fn find_opening_warnings<A: Allocator + Copy>(
     find_long_wait(found, queue, openings)
 }
 
-/// Returns whether all frames that an entry passes enter class `class`: by the entry's internal priority value or, without one, the
-/// filter's priority. `class_openings` calls it.
+/// Returns whether all frames that an entry passes enter class `class`. The entry's internal priority value decides or, if the entry has
+/// none, the filter's priority. `class_openings` calls it.
 fn is_opening_for_class(
     opening: &GateOpening,
     priority: Option<u8>,

@@ -29,7 +29,7 @@ const ENTRY: &str = "`stream` {1} leads filter {0} to port {2} by a `static` ent
 const FLOOD: &str =
     "`stream` {1} leads filter {0} to port {2}. VLAN {3} has no `static` entry for its address, so its frames go to all members.\n";
 
-/// Returns whether VLAN `vid` has a static entry for an address. Without such an entry, frames to `address` flood the VLAN. `route_cause`
+/// Returns whether VLAN `vid` has a static entry for an address. If there is no entry, frames to `address` flood the VLAN. `route_cause`
 /// calls it.
 fn has_entry(statics: &[StaticEntry], vid: u16, address: [u8; 6]) -> bool {
     statics

@@ -236,7 +236,8 @@ fn cause_sentence(reason: NotForwardedCause) -> &'static str {
     }
 }
 
-/// Writes that a stream doesn't leave by a port of its static entry, because the port isn't a member of its VLAN. `put_warning` calls it.
+/// Writes that a stream doesn't leave by a port of its static entry, because the port isn't a member of the stream's VLAN. `put_warning`
+/// calls it.
 fn put_non_member_port<A: Allocator>(said: &mut TextBuilder<A>, outside: &NonMemberPort) {
     let numbers = [
         u64::from(outside.filter),

@@ -21,7 +21,7 @@ pub(crate) const SHORTEST: u64 = 64;
 /// SDU octets of the shortest frame: its EtherType.
 const LEAST_SDU: u32 = 2;
 
-/// Returns whether at least one filter is protected or grouped. Without one, the plan has no guarantee. `find_unprotected` calls it.
+/// Returns whether at least one filter is protected or grouped. If none is, the plan has no guarantee. `find_unprotected` calls it.
 fn has_tested(filters: &[(u32, FilterPlan)]) -> bool
     ensures { result ≡ spec.has_tested filters.now }
 {
@@ -65,7 +65,7 @@ fn is_entry_to_ingress(stream: &StreamEntry, entry: &StaticEntry) -> bool {
     entry.vid == stream.vid && entry.address == stream.address && entry.ports.has(stream.port)
 }
 
-/// Returns whether a stream is identified by destination, and its static entry names its ingress port. `find_streams` calls it.
+/// Returns whether a stream is identified by destination, and the static entry names the stream's ingress port. `find_streams` calls it.
 fn is_sent_to_ingress(stream: &StreamEntry, statics: &[StaticEntry]) -> bool {
     match stream.kind {
         Kind::Null => statics
@@ -101,7 +101,7 @@ fn are_strays<A: Allocator + Copy>(plan: &Plan<A>, handle: u32) -> bool {
     is_asked
 }
 
-/// Adds a warning for each stream whose static entry names its ingress port, unless its filters only refuse stray frames.
+/// Adds a warning for each stream whose static entry names the stream's ingress port, unless the stream's filters only refuse stray frames.
 /// `find_unused_parts` calls it.
 fn find_streams<A: Allocator + Copy>(
     found: &mut Vec<Warning>,
@@ -156,8 +156,8 @@ fn closing_time<A: Allocator + Copy>(gate: &GatePlan<A>) -> Option<u64> {
     }
 }
 
-/// Returns the number of the first protected or grouped filter that uses stream gate `gate`, or `None`. `find_gates` and `is_decision` call
-/// it.
+/// Returns the number of the first protected or grouped filter that uses stream gate `gate`. `None` if no protected or grouped filter does.
+/// `find_gates` and `is_decision` call it.
 fn tested_filter_with_gate(filters: &[(u32, FilterPlan)], gate: u32) -> Option<u32>
     ensures { result ≡ spec.tested_with gate filters.now }
 {
@@ -292,7 +292,8 @@ fn covers_filter(one: &FilterPlan, other: &FilterPlan) -> bool
     covers_handle(one.handle, other.handle) && covers_priority(one.priority, other.priority)
 }
 
-/// Returns the number of the first filter below `number` that matches each frame of `filter`, or `None`. `find_hidden_filter` calls it.
+/// Returns the number of the first filter below `number` that matches each frame of `filter`. `None` if no filter does.
+/// `find_hidden_filter` calls it.
 fn first_hiding_filter(
     filters: &[(u32, FilterPlan)],
     number: u32,
@@ -319,8 +320,8 @@ fn takes_value(own: Option<u8>, priority: u8) -> bool
     }
 }
 
-/// Returns the number of the first filter below `number` that matches each frame of `filter` with priority `priority`, or `None`.
-/// `is_priority_taken` and `taking_filters` call it.
+/// Returns the number of the first filter below `number` that matches each frame of `filter` with priority `priority`. `None` if no filter
+/// does. `is_priority_taken` and `taking_filters` call it.
 fn taking_filter(
     filters: &[(u32, FilterPlan)],
     number: u32,
@@ -366,8 +367,8 @@ fn are_all_taken(filters: &[(u32, FilterPlan)], number: u32, filter: &FilterPlan
         & is_priority_taken(filters, number, filter, 7)
 }
 
-/// Returns for each priority, from 0, the number of the first filter below `number` that matches the frames of `filter`; 0 without such a
-/// filter. `find_hidden_filter` calls it.
+/// Returns for each priority, from 0, the number of the first filter below `number` that matches the frames of `filter`. The number is 0 if
+/// no filter matches. `find_hidden_filter` calls it.
 fn taking_filters(filters: &[(u32, FilterPlan)], number: u32, filter: &FilterPlan) -> [u32; 8] {
     let mut takers = [0u32; 8];
     for priority in 0..8u8 {
@@ -417,7 +418,8 @@ fn find_no_length(
     }
 }
 
-/// Returns the first octet limit of an open entry that is less than `sdu` octets, or `None`. `low_schedule_limit` calls it.
+/// Returns the first octet limit of an open entry that is less than `sdu` octets. `None` if no limit is less. `low_schedule_limit` calls
+/// it.
 fn first_low_limit(entries: &[(GateEntry, u64)], sdu: u32) -> Option<u32>
     ensures { IfSome result (λ octets. octets < sdu) }
 {
@@ -433,8 +435,8 @@ fn first_low_limit(entries: &[(GateEntry, u64)], sdu: u32) -> Option<u32>
     None
 }
 
-/// Returns the first octet limit of a stream gate's open entries that is less than `sdu` octets, or `None`. The old list comes before the
-/// new list. `low_gate_limit` calls it.
+/// Returns the first octet limit of a stream gate's open entries that is less than `sdu` octets. `None` if no limit is less. The old list
+/// comes before the new list. `low_gate_limit` calls it.
 fn low_schedule_limit<A: Allocator + Copy>(schedule: &Schedule<A>, sdu: u32) -> Option<u32>
     ensures { IfSome result (λ octets. octets < sdu) }
 {
@@ -448,8 +450,8 @@ fn low_schedule_limit<A: Allocator + Copy>(schedule: &Schedule<A>, sdu: u32) -> 
     }
 }
 
-/// Returns the first octet limit of stream gate `number` that is less than `sdu`. Returns `None` without such a limit or gate.
-/// `find_low_limit` calls it.
+/// Returns the first octet limit of stream gate `number` that is less than `sdu`. Returns `None` if no limit is less, or if the gate is
+/// missing. `find_low_limit` calls it.
 fn low_gate_limit<A: Allocator + Copy>(
     gates: &[(u32, GatePlan<A>)],
     number: u32,

@@ -35,11 +35,11 @@ pub enum Warning {
     HiddenTogether(HiddenTogether),
     /// A class never opens although frames of an unprotected filter can enter it.
     NeverOpen(NeverOpen),
-    /// A protected stream has no static entry, so its frames leave by all members of its VLAN.
+    /// A protected stream has no static entry, so its frames leave by all members of the stream's VLAN.
     Flooded(Flooded),
     /// A stream of a protected filter isn't forwarded.
     NotForwarded(NotForwarded),
-    /// A protected stream doesn't leave by a port of its static entry, because the port isn't a member of its VLAN.
+    /// A protected stream doesn't leave by a port of its static entry, because the port isn't a member of the stream's VLAN.
     NonMemberPort(NonMemberPort),
     /// The longest frames of a protected or grouped filter are always red.
     SmallBurst(SmallBurst),

@@ -83,7 +83,7 @@ fn can_enter_port(streams: &[StreamEntry], handle: Option<u32>, port: u8) -> boo
     false
 }
 
-/// Returns whether a filter is protected or grouped. Pictures show the windows and stream gates of such filters. `add_gates` and
+/// Returns whether a filter is protected or grouped. Pictures show the windows and stream gates of these filters. `add_gates` and
 /// `is_filter_in_lane` call it.
 fn is_shown(filter: &FilterPlan) -> bool {
     filter.protected || filter.group.is_some()

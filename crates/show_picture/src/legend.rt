@@ -11,7 +11,7 @@ const EDGED: [&str; 8] = [
     "c0 e", "c1 e", "c2 e", "c3 e", "c4 e", "c5 e", "c6 e", "c7 e",
 ];
 
-/// Returns the style of a filter's colour. `is_edged` is true for protected filters. `put_filter_legend`, `put_wait` and others call it.
+/// Returns the style of a filter's colour. `is_edged` is true for protected filters. `put_filter_legend`, `put_wait` and 2 more call it.
 pub(crate) fn colour_style(colour: u64, is_edged: bool) -> &'static str {
     let place = (colour % 8) as usize;
     if is_edged {

@@ -83,7 +83,8 @@ fn is_drawn(
 }
 
 impl Picture {
-    /// Draws the arrival of a frame with a delay bound, its wait, and its latest end `by` in ns. `put_frame` calls it.
+    /// Draws the arrival of a frame with a delay bound, the frame's wait, and the latest end `by` of the transmission in ns. `put_frame`
+    /// calls it.
     fn put_wait(&mut self, frame: &DrawnFrame, by: u64) {
         let (came, colour) = (frame.arrival, frame.colour);
         let (x, due) = self.span.page_extent(came, by);

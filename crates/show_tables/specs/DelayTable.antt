@@ -34,7 +34,7 @@ abbrev pub bound_field : Option ℕ → List ℕ
 bound_field None = codes ","
 bound_field (Some b) = field b
 
--- The row of filter `filter` at port `port`, with its delays there, its bound and its losses.
+-- The row of filter `filter` at port `port`, with the delays, bound and losses there.
 unfoldable pub port_row : {A : Type 0} → ℕ → View A → ℕ → Option ℕ → List ℕ → List ℕ
 port_row filter v port bound delays = field filter ++ (field port ++ (field (length delays) ++ (figure_fields delays ++ (bound_field bound
     ++ loss_fields v.verdicts.items (count_full_on_port port v.drops.items) (count_never_on_port port v.drops.items)))))

@@ -32,7 +32,7 @@ fn put_bound<A: Allocator>(text: &mut TextBuilder<A>, bound: Option<u64>)
     }
 }
 
-/// Writes the row of a filter at a port that sent copies of its frames: number and figures of `delays`, the bound, and losses.
+/// Writes the row of a filter at a port that sent copies of its frames: number and figures of `delays`, the bound in ns, losses.
 /// `put_row_if_any` calls it.
 fn put_port_row<A: Allocator>(
     text: &mut TextBuilder<A>,
@@ -73,8 +73,8 @@ fn put_unsent_row<A: Allocator>(text: &mut TextBuilder<A>, filter: u32, view: &V
     );
 }
 
-/// Writes the row of a filter at a port with delay bound `bound`, if copies of its frames left by port `port` (`delays` has items).
-/// `put_row_of_port` calls it.
+/// Writes the row of a filter at a port, if copies of its frames left by port `port` (`delays` has items). `bound` is the delay bound in
+/// ns. `put_row_of_port` calls it.
 fn put_row_if_any<A: Allocator>(
     text: &mut TextBuilder<A>,
     filter: u32,

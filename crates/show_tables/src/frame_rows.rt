@@ -23,7 +23,7 @@ pub(crate) struct FilterFrame {
     pub verdict: Verdict,
 }
 
-/// Writes a field: a number and a comma. `put_figures`, `put_bound` and others call it.
+/// Writes a field: a number and a comma. `put_figures`, `put_bound` and 7 more call it.
 pub(crate) fn put_field<A: Allocator>(text: &mut TextBuilder<A>, number: u64)
     ensures { HasGrown text.old (spec.field number) text.new }
 {

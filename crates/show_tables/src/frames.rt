@@ -11,8 +11,8 @@ use bridge_semantics::{Departure, Dropped, Outcome, StoredOrigin, StoredVerdict,
 use bridge_text::TextBuilder;
 use std::alloc::Allocator;
 
-/// Writes the rows of a frame. `departures` and `drops` are the frame's own; without any copy, the frame gets one row. `put_sorted_frame`
-/// calls it.
+/// Writes the rows of a frame. `departures` and `drops` are the frame's own; if there is no copy, the frame gets one row.
+/// `put_sorted_frame` calls it.
 fn put_frame<A: Allocator>(
     text: &mut TextBuilder<A>,
     frame: &FilterFrame,
