@@ -90,7 +90,7 @@ pub fn open_file_id(file: &impl OpenFile) -> Option<FileId> {
     }
 }
 
-/// Returns the identity of the file at `path`, or `None` if the file doesn't exist or the system provides no identity. `note_paths`,
+/// Returns the identity of the file at `path`, or `None` if the file doesn't exist or the system provides no identity.
 /// `refuse_in_use` and functions of `app_commands` and `app_networks` call it.
 pub fn path_file_id(rt: &impl Files, path: &str) -> Option<FileId> {
     match fs::metadata(rt, path) {
