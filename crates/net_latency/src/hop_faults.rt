@@ -155,7 +155,8 @@ pub(crate) fn put_grouped(
     said.put(".\n");
 }
 
-/// Returns the number, from 1, of the first hop in `hops` with the bridge and filter of `hop`, or 0 if there is none. `put_twice` calls it.
+/// Returns the number, from 1, of the first hop in `hops` with the bridge and filter of `hop`, or 0 if there is none. `put_twice` and
+/// `is_in_stream` call it.
 fn hop_index(hops: &[StreamHop], hop: StreamHop) -> u64 {
     let mut place = 0u64;
     for other in hops {
@@ -192,13 +193,11 @@ fn put_twice(
     said.put(".\nA filter is one hop of one stream: correct one of the two hops.\n");
 }
 
-/// Returns whether a filter of a bridge is a hop of one of these streams. `put_free_filters` calls it.
-fn is_in_stream(streams: &[Vec<StreamHop>], bridge: u16, filter: u32) -> bool {
+/// Returns whether one of these streams has the bridge and filter of `hop`. `put_free_filters` calls it.
+fn is_in_stream(streams: &[Vec<StreamHop>], hop: StreamHop) -> bool {
     for hops in streams {
-        for hop in hops {
-            if hop.bridge == bridge && hop.filter == filter {
-                return true;
-            }
+        if hop_index(hops.as_slice(), hop) > 0 {
+            return true;
         }
     }
     false
@@ -215,8 +214,11 @@ fn put_free_filters(
 ) {
     let mut numbers = Vec::new(alloc);
     for (number, filter) in plan.filters() {
-        let is_free = filter.protected
-            && !is_in_stream(refused.streams.as_slice(), found.hop.bridge, *number);
+        let hop = StreamHop {
+            bridge: found.hop.bridge,
+            filter: *number,
+        };
+        let is_free = filter.protected && !is_in_stream(refused.streams.as_slice(), hop);
         if is_free && numbers.push(u64::from(*number)).is_err() {
             return said.discard();
         }
