@@ -116,10 +116,7 @@ pub fn has_value(name: &str) -> Option<bool>
 
 /// Appends to `names` the name of each option in `words` that isn't in `names` yet: several commands can have one option. `option_names`
 /// calls it.
-fn push_options(
-    names: &mut Vec<&'static str>,
-    words: &'static [Argument],
-) -> Result<(), NoMemory> {
+fn push_options(names: &mut Vec<&'static str>, words: &'static [Argument]) -> Result<(), NoMemory> {
     for word in words {
         if is_option(word) && !names.contains(&word.id) {
             names.push(word.id)?;
