@@ -17,7 +17,7 @@ use Rattle.bridge_config.specs.declared.ports.PortPlan.{PortPlan}
 use Rattle.bridge_config.specs.Model.{Plan}
 use Rattle.bridge_config.specs.Rules.{IsPlan, find_port}
 use Rattle.bridge_check.specs.Windows.{longest_frame}
-use Rattle.bridge_semantics.specs.Events.{Arrival, Arrived, Cleared, Event, metered_octets, plan_police, police_steps}
+use Rattle.bridge_semantics.specs.Events.{Arrival, Arrived, Cleared, Event, frame_destination, metered_octets, plan_police, police_steps}
 use Rattle.bridge_semantics.specs.Offers.{CarriedFrame, Offer, class_offers, copy_offers, egress_rules, port_offers}
 use Rattle.bridge_semantics.specs.Runs.{AreFinished, IsRun}
 use Rattle.bridge_semantics.proofs.Headline.{in_class_in, in_only}
@@ -131,16 +131,24 @@ copies_cost cost curve (x ∷ xs) keep = ((λ u w at. subst (λ (n : ℕ). n ≤
 module _ {A : Type 0} (p : Plan A) (group : ℕ) (sharers : List (ℕ × FilterPlan)) (q c sdu : ℕ) (out : PortPlan A) (plan : IsPlan p) (is : HasAcceptableGroups p) (at : find_port p.ports q ≡ Some out) (reached : IsGroupQueue p group q c) (share : AreSharers p group q c sdu sharers)
     (fit : ℕ) (own : ℕ → ℕ → ℕ) (limits : (n : ℕ) (f : FilterPlan) → IsMember (n, f) sharers → HasFilterCostCurve p out c n (frame_cost fit out.speed) (own n)) where
   arrived_cost : (a : Arrival) (es : List Event) → AreArrivalsInOrder (Arrived a ∷ es) → HasOfferCostCurve (frame_cost fit out.speed) (curve_sum own sharers) (class_offers c (port_offers p out es)) → HasOfferCostCurve (frame_cost fit out.speed) (curve_sum own sharers) (class_offers c (port_offers p out (Arrived a ∷ es)))
-  arrived_cost a es order before =
-      let os = class_offers c (port_offers p out (Arrived a ∷ es)) in
-      let keep : (u w : ℕ) → last_arrival_time (Arrived a ∷ es) ≤ u + w → recent_offer_cost (frame_cost fit out.speed) u os ≤ curve_sum own sharers w = λ u w upto.
-      let flows = cost_by_flows (frame_cost fit out.speed) sharers u os (sharing.offers_of p group sharers q c sdu out plan is at reached share (Arrived a ∷ es)) in
-      let all = flows_limited (frame_cost fit out.speed) own sharers u w os (λ n f i. limits n f i u w (Arrived a ∷ es) order upto) in
-      omega (arith, flows, all) in
-      sharing.kept_by_arrival p out c (HasOfferCostCurve (frame_cost fit out.speed) (curve_sum own sharers)) a es
-      (λ o list moment.
-      ((λ u w from. subst (λ (os : List Offer). recent_offer_cost (frame_cost fit out.speed) u os ≤ curve_sum own sharers w) list (keep u w (omega (arith, from, moment)))), before))
-      before
+  arrived_cost a es order before = elim (sharing.one_by_way p out a es (frame_destination p a)) [
+    | inl none ↦ rw none before
+    | inr one ↦
+        let (o, same, moment) = one in
+        by_bool (nat_eq o.class c)
+        (λ k.
+        let list : class_offers c (port_offers p out (Arrived a ∷ es)) ≡ o ∷ class_offers c (port_offers p out es) = rw (same, k) refl in
+        let keep : (u w : ℕ) → last_arrival_time (Arrived a ∷ es) ≤ u + w → recent_offer_cost (frame_cost fit out.speed) u (class_offers c (port_offers p out (Arrived a ∷ es))) ≤ curve_sum own sharers w = λ u w upto.
+        let os = class_offers c (port_offers p out (Arrived a ∷ es)) in
+        let flows = cost_by_flows (frame_cost fit out.speed) sharers u os (sharing.offers_of p group sharers q c sdu out plan is at reached share (Arrived a ∷ es)) in
+        let all = flows_limited (frame_cost fit out.speed) own sharers u w os (λ n f i. limits n f i u w (Arrived a ∷ es) order upto) in
+        omega (arith, flows, all) in
+        subst (HasOfferCostCurve (frame_cost fit out.speed) (curve_sum own sharers)) (sym list)
+        ((λ u w from. subst (λ (os : List Offer). recent_offer_cost (frame_cost fit out.speed) u os ≤ curve_sum own sharers w) list (keep u w (omega (arith, from, moment)))), before))
+        (λ k.
+        let list : class_offers c (port_offers p out (Arrived a ∷ es)) ≡ class_offers c (port_offers p out es) = rw (same, k) refl in
+        subst (HasOfferCostCurve (frame_cost fit out.speed) (curve_sum own sharers)) (sym list) before)
+  ]
 
   offers_keep : (es : List Event) → AreArrivalsInOrder es → HasOfferCostCurve (frame_cost fit out.speed) (curve_sum own sharers) (class_offers c (port_offers p out es))
   offers_keep [] order = tt

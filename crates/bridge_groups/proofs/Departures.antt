@@ -1,6 +1,6 @@
 -- Frames that a filter's meter passes at one hop conform at the next hop.
 use Rattle.std.proofs.Common.{◌≡◌, ◌≤◌, ◌+◌, ◌-◌, ◌*◌, ℕ, true, List, [], ◌∷◌, ◌++◌, Some, arith, ap, refl, sym, subst, inl, inr, ◌∙◌}
-use Rattle.std.specs.Prelude.{nat_le, if◌then◌else◌}
+use Rattle.std.specs.Prelude.{nat_eq, nat_le, if◌then◌else◌}
 use Rattle.bridge_limits.specs.Members.{IsMember}
 use Rattle.bridge_limits.proofs.Cases.{by_bool}
 use Rattle.bridge_frame.specs.declared.Speed.{Speed}
@@ -14,7 +14,7 @@ use Rattle.bridge_config.specs.declared.ports.PortPlan.{PortPlan}
 use Rattle.bridge_config.specs.Model.{Plan}
 use Rattle.bridge_config.specs.Rules.{IsPlan, find_port}
 use Rattle.bridge_check.specs.Windows.{longest_frame}
-use Rattle.bridge_semantics.specs.Events.{Arrival, Arrived, Cleared, Event, metered_octets, plan_police}
+use Rattle.bridge_semantics.specs.Events.{Arrival, Arrived, Cleared, Event, frame_destination, metered_octets, plan_police}
 use Rattle.bridge_semantics.specs.Offers.{CarriedFrame, Offer, class_offers, copy_offers, egress_rules, port_offers}
 use Rattle.bridge_semantics.specs.Runs.{AreFinished, IsRun}
 use Rattle.bridge_semantics.proofs.Headline.{only_in}
@@ -102,11 +102,19 @@ starts_after r x s (y ∷ ys) solo (inr i) started = starts_after r x s ys solo.
 
 module _ {A : Type 0} (p : Plan A) (group : ℕ) (sharers : List (ℕ × FilterPlan)) (q c sdu : ℕ) (out : PortPlan A) (plan : IsPlan p) (is : HasAcceptableGroups p) (at : find_port p.ports q ≡ Some out) (reached : IsGroupQueue p group q c) (share : AreSharers p group q c sdu sharers) (metered_all : HaveMeters sharers) (n m : ℕ) (f : FilterPlan) (sharer : IsMember (n, f) sharers) (own_meter : f.meter ≡ Some m) where
   arrived_octets : (a : Arrival) (es : List Event) → AreArrivalsInOrder (Arrived a ∷ es) → HasOctetCurve n (optional_burst (plan_police p).meters f.meter) (optional_rate (plan_police p).meters f.meter) (class_offers c (port_offers p out es)) → HasOctetCurve n (optional_burst (plan_police p).meters f.meter) (optional_rate (plan_police p).meters f.meter) (class_offers c (port_offers p out (Arrived a ∷ es)))
-  arrived_octets a es order before =
-      sharing.kept_by_arrival p out c (HasOctetCurve n (optional_burst (plan_police p).meters f.meter) (optional_rate (plan_police p).meters f.meter)) a es
-      (λ o list moment.
-      ((λ u w from. subst (λ (os : List Offer). recent_filter_octets n u os * octet_units ≤ optional_burst (plan_police p).meters f.meter * octet_units + optional_rate (plan_police p).meters f.meter * w) list (sharing.allowed_by p group sharers q c sdu out plan is at reached share n f m u w (Arrived a ∷ es) sharer own_meter order (omega (arith, from, moment)))), before))
-      before
+  arrived_octets a es order before = elim (sharing.one_by_way p out a es (frame_destination p a)) [
+    | inl none ↦ rw none before
+    | inr one ↦
+        let (o, same, moment) = one in
+        by_bool (nat_eq o.class c)
+        (λ k.
+        let list : class_offers c (port_offers p out (Arrived a ∷ es)) ≡ o ∷ class_offers c (port_offers p out es) = rw (same, k) refl in
+        subst (HasOctetCurve n (optional_burst (plan_police p).meters f.meter) (optional_rate (plan_police p).meters f.meter)) (sym list)
+        ((λ u w from. subst (λ (os : List Offer). recent_filter_octets n u os * octet_units ≤ optional_burst (plan_police p).meters f.meter * octet_units + optional_rate (plan_police p).meters f.meter * w) list (sharing.allowed_by p group sharers q c sdu out plan is at reached share n f m u w (Arrived a ∷ es) sharer own_meter order (omega (arith, from, moment)))), before))
+        (λ k.
+        let list : class_offers c (port_offers p out (Arrived a ∷ es)) ≡ class_offers c (port_offers p out es) = rw (same, k) refl in
+        subst (HasOctetCurve n (optional_burst (plan_police p).meters f.meter) (optional_rate (plan_police p).meters f.meter)) (sym list) before)
+  ]
 
   offers_octets : (es : List Event) → AreArrivalsInOrder es → HasOctetCurve n (optional_burst (plan_police p).meters f.meter) (optional_rate (plan_police p).meters f.meter) (class_offers c (port_offers p out es))
   offers_octets [] order = tt

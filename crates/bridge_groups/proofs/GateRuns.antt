@@ -53,7 +53,7 @@ use Rattle.bridge_groups.specs.Curves.{AreArrivalsInOrder, has_filter_number, la
 use Rattle.bridge_groups.specs.GateBounds.{HaveSdus, IsGateWorkBound, IsScheduleBound, are_limited}
 use Rattle.bridge_groups.specs.GateLimits.{HasOctetLimits, ended_turn_limits, is_same_turn, octet_budget}
 use Rattle.bridge_groups.proofs.Limits.{work_within_budget}
-use Rattle.bridge_groups.proofs.Sharing.{kept_by_arrival, of_class, only_order}
+use Rattle.bridge_groups.proofs.Sharing.{of_class, one_by_way, only_order}
 use Rattle.bridge_groups.proofs.Sums.{least_occupied, work_as}
 
 -- EACH COPY OF A QUEUE
@@ -214,8 +214,18 @@ module _ {A : Type 0} (p : Plan A) (n q c m share : ℕ) (some_share : 1 ≤ sha
       )
 
   arrived_keeps : (a : Arrival) (es : List Event) → AreArrivalsInOrder (Arrived a ∷ es) → HaveSdus share (Arrived a ∷ es) → AreOwn (Arrived a ∷ es) → KeepsIntervals (class_offers c (port_offers p out es)) → KeepsIntervals (class_offers c (port_offers p out (Arrived a ∷ es)))
-  arrived_keeps a es order long own before =
-      kept_by_arrival p out c KeepsIntervals a es (λ o list moment. one_more a es o (class_offers c (port_offers p out es)) order long own list moment before) before
+  arrived_keeps a es order long own before = elim (one_by_way p out a es (frame_destination p a)) [
+    | inl none ↦ rw none before
+    | inr one ↦
+        let (o, same, moment) = one in
+        by_bool (nat_eq o.class c)
+        (λ k.
+        let list : class_offers c (port_offers p out (Arrived a ∷ es)) ≡ o ∷ class_offers c (port_offers p out es) = rw (same, k) refl in
+        subst KeepsIntervals (sym list) (one_more a es o (class_offers c (port_offers p out es)) order long own list moment before))
+        (λ k.
+        let list : class_offers c (port_offers p out (Arrived a ∷ es)) ≡ class_offers c (port_offers p out es) = rw (same, k) refl in
+        subst KeepsIntervals (sym list) before)
+  ]
 
   -- The offers of the class keep the gate's intervals.
   offers_keep : (es : List Event) → AreArrivalsInOrder es → HaveSdus share es → ((o : Offer) → IsMember o (port_offers p out es) → o.class ≡ c → o.item.flow ≡ Some n) → KeepsIntervals (class_offers c (port_offers p out es))

@@ -24,7 +24,7 @@ use Rattle.bridge_config.specs.Model.{Plan}
 use Rattle.bridge_config.specs.Rules.{IsPlan, find_port}
 use Rattle.bridge_check.specs.Acceptable.{HasAcceptableGroups}
 use Rattle.bridge_check.specs.Windows.{longest_frame}
-use Rattle.bridge_semantics.specs.Events.{Arrival, Arrived, Cleared, Event, plan_police}
+use Rattle.bridge_semantics.specs.Events.{Arrival, Arrived, Cleared, Event, frame_destination, plan_police}
 use Rattle.bridge_semantics.specs.Groups.{IsGroupQueue}
 use Rattle.bridge_semantics.specs.Offers.{CarriedFrame, Offer, class_offers, copy_offers, egress_rules, port_offers}
 use Rattle.bridge_semantics.specs.Runs.{AreFinished, IsRun}
@@ -47,7 +47,7 @@ use Rattle.bridge_groups.proofs.SharedRuns.{in_time}
 use Rattle.bridge_groups.proofs.Limits.{padded_sdus, work_by_flows, work_within_budget}
 use Rattle.bridge_groups.proofs.SharedQueues.{sharers_are}
 use Rattle.bridge_groups.proofs.Sharing as sharing
-use Rattle.bridge_groups.proofs.Sharing.{kept_by_arrival, only_order}
+use Rattle.bridge_groups.proofs.Sharing.{one_by_way, only_order}
 
 -- THE GATES OF THE FILTERS
 
@@ -171,8 +171,18 @@ module _ {A : Type 0} (p : Plan A) (group : ℕ) (sharers : List (ℕ × FilterP
       )
 
   arrived_keeps : (a : Arrival) (es : List Event) → AreArrivalsInOrder (Arrived a ∷ es) → HaveSdus share (Arrived a ∷ es) → KeepsIntervals (offers es) → KeepsIntervals (offers (Arrived a ∷ es))
-  arrived_keeps a es order long before =
-      kept_by_arrival p out c KeepsIntervals a es (λ o list moment. one_offer a es o (offers es) order long list moment before) before
+  arrived_keeps a es order long before = elim (one_by_way p out a es (frame_destination p a)) [
+    | inl none ↦ rw none before
+    | inr one ↦
+        let (o, same, moment) = one in
+        by_bool (nat_eq o.class c)
+        (λ k.
+        let list : offers (Arrived a ∷ es) ≡ o ∷ offers es = rw (same, k) refl in
+        subst KeepsIntervals (sym list) (one_offer a es o (offers es) order long list moment before))
+        (λ k.
+        let list : offers (Arrived a ∷ es) ≡ offers es = rw (same, k) refl in
+        subst KeepsIntervals (sym list) before)
+  ]
 
   -- The offers of the class keep the intervals of the merged list.
   offers_keep : (es : List Event) → AreArrivalsInOrder es → HaveSdus share es → KeepsIntervals (offers es)

@@ -137,33 +137,6 @@ module _ {A : Type 0} (p : Plan A) (group q c : ℕ) (plan : IsPlan p) (good : H
           let own = each f (inl refl) in
           by_bool (is_sharer p group q c f.1) (λ k. rw k (omega (arith, own, rest))) (λ k. rw k rest)
 
-  -- The longest SDU of the sharers is at most 65,535 octets.
-  pub sdu_small : (sdu : ℕ) → sdu ≡ longest_sdu own_sharers → sdu ≤ 65535
-  sdu_small sdu is = let small = sharers_small in omega (arith, is, small)
-
-  -- The frame with the sharers' longest SDU fits a window of the queue.
-  pub sdu_fits : (out : PortPlan A) → find_port p.ports q ≡ Some out → IsGroupQueue p group q c → (sdu : ℕ) → sdu ≡ longest_sdu own_sharers
-      → lists_can_fit out.list c (transmission_time (longest_frame sdu) out.speed) ≡ true
-  sdu_fits out at reached sdu is = subst (λ (s : ℕ). lists_can_fit out.list c (transmission_time (longest_frame s) out.speed) ≡ true) (sym is) (sharers_fit out at reached)
-
--- COLLECTED SHARERS
-
--- The sharers of plan `z`, read back as `seen`, are the sharers of the equal plan `p`.
-pub collected_sharers : {A : Type 0} (z p : Plan A) (group q c : ℕ) (found seen : List (ℕ × FilterPlan)) → found ≡ queue_sharers z group q c z.filters → z ≡ p → seen ≡ found
-    → seen ≡ queue_sharers p group q c p.filters
-collected_sharers z p group q c found seen collects same read = read ∙ (collects ∙ ap (λ (x : Plan _). queue_sharers x group q c x.filters) same)
-
--- The longest SDU of the collected sharers.
-pub collected_sdu : {A : Type 0} (z p : Plan A) (group q c : ℕ) (found seen : List (ℕ × FilterPlan)) (sdu : ℕ) → found ≡ queue_sharers z group q c z.filters → z ≡ p → seen ≡ found
-    → sdu ≡ longest_sdu seen → sdu ≡ longest_sdu (queue_sharers p group q c p.filters)
-collected_sdu z p group q c found seen sdu collects same read is = is ∙ ap longest_sdu (collected_sharers z p group q c found seen collects same read)
-
--- A figure of the collected sharers.
-pub collected_figure : {A : Type 0} (Is : Plan A → List (ℕ × FilterPlan) → ℕ → Type 0) (z p : Plan A) (seen own : List (ℕ × FilterPlan)) (figure : Option ℕ) → z ≡ p → seen ≡ own
-    → IfSome figure (Is z seen) → IfSome figure (Is p own)
-collected_figure Is z p seen own figure same are is =
-    subst (λ (xs : List (ℕ × FilterPlan)). IfSome figure (Is p xs)) are (subst (λ (x : Plan _). IfSome figure (Is x seen)) same is)
-
 -- CAPACITIES
 
 -- A greater capacity suffices too.

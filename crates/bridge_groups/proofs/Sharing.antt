@@ -119,23 +119,6 @@ one_by_way p out a es way.Malformed = inl refl
 one_by_way p out a es way.Nowhere = inl refl
 one_by_way p out a es (way.Forwarded set c) = by_bool (has_port set out.number) (λ k. rw k (one_by_step p out a es c.priority (frame_step p es c))) (λ k. rw k (inl refl))
 
--- A property of the offers to a class holds after an arrival if it held before, and if the arrival's offer to the class keeps it.
-pub kept_by_arrival : {A : Type 0} (p : Plan A) (out : PortPlan A) (c : ℕ) (Kept : List Offer → Type 0) (a : Arrival) (es : List Event)
-    → ((o : Offer) → class_offers c (port_offers p out (Arrived a ∷ es)) ≡ o ∷ class_offers c (port_offers p out es) → o.at ≡ a.at → Kept (o ∷ class_offers c (port_offers p out es)))
-    → Kept (class_offers c (port_offers p out es)) → Kept (class_offers c (port_offers p out (Arrived a ∷ es)))
-kept_by_arrival p out c Kept a es more before = elim (one_by_way p out a es (frame_destination p a)) [
-  | inl none ↦ rw none before
-  | inr one ↦
-      let (o, same, moment) = one in
-      by_bool (nat_eq o.class c)
-      (λ k.
-      let list : class_offers c (port_offers p out (Arrived a ∷ es)) ≡ o ∷ class_offers c (port_offers p out es) = rw (same, k) refl in
-      subst Kept (sym list) (more o list moment))
-      (λ k.
-      let list : class_offers c (port_offers p out (Arrived a ∷ es)) ≡ class_offers c (port_offers p out es) = rw (same, k) refl in
-      subst Kept (sym list) before)
-]
-
 -- THE CURVE OF A QUEUE
 
 module _ {A : Type 0} (p : Plan A) (group : ℕ) (sharers : List (ℕ × FilterPlan)) (q c sdu : ℕ) (out : PortPlan A) (plan : IsPlan p) (is : HasAcceptableGroups p) (at : find_port p.ports q ≡ Some out) (reached : IsGroupQueue p group q c) (share : AreSharers p group q c sdu sharers) where
@@ -187,11 +170,19 @@ module _ {A : Type 0} (p : Plan A) (group : ℕ) (sharers : List (ℕ × FilterP
   module _ (Fine : List Event → Type 0) (behind : (a : Arrival) (es : List Event) → Fine (Arrived a ∷ es) → Fine es) (uncommanded : (d : Clear) (k : ℕ) (es : List Event) → Fine (Cleared d k ∷ es) → Fine es) (curve many : ℕ → ℕ)
       (keep : (u w : ℕ) (es : List Event) → AreArrivalsInOrder es → Fine es → last_arrival_time es ≤ u + w → (recent_offer_work out.speed u (class_offers c (port_offers p out es)) ≤ curve w) × (count_recent_offers u (class_offers c (port_offers p out es)) ≤ many w)) where
     arrived_keep : (a : Arrival) (es : List Event) → AreArrivalsInOrder (Arrived a ∷ es) → Fine (Arrived a ∷ es) → HaveOfferCurves out.speed curve many (class_offers c (port_offers p out es)) → HaveOfferCurves out.speed curve many (class_offers c (port_offers p out (Arrived a ∷ es)))
-    arrived_keep a es order ok before =
-        kept_by_arrival p out c (HaveOfferCurves out.speed curve many) a es
-        (λ o list moment.
-        ((λ u w from. subst (λ (os : List Offer). (recent_offer_work out.speed u os ≤ curve w) × (count_recent_offers u os ≤ many w)) list (keep u w (Arrived a ∷ es) order ok (omega (arith, from, moment)))), before))
-        before
+    arrived_keep a es order ok before = elim (one_by_way p out a es (frame_destination p a)) [
+      | inl none ↦ rw none before
+      | inr one ↦
+          let (o, same, moment) = one in
+          by_bool (nat_eq o.class c)
+          (λ k.
+          let list : class_offers c (port_offers p out (Arrived a ∷ es)) ≡ o ∷ class_offers c (port_offers p out es) = rw (same, k) refl in
+          subst (HaveOfferCurves out.speed curve many) (sym list)
+          ((λ u w from. subst (λ (os : List Offer). (recent_offer_work out.speed u os ≤ curve w) × (count_recent_offers u os ≤ many w)) list (keep u w (Arrived a ∷ es) order ok (omega (arith, from, moment)))), before))
+          (λ k.
+          let list : class_offers c (port_offers p out (Arrived a ∷ es)) ≡ class_offers c (port_offers p out es) = rw (same, k) refl in
+          subst (HaveOfferCurves out.speed curve many) (sym list) before)
+    ]
 
     offers_keep : (es : List Event) → AreArrivalsInOrder es → Fine es → HaveOfferCurves out.speed curve many (class_offers c (port_offers p out es))
     offers_keep [] order ok = tt
