@@ -1,16 +1,19 @@
 -- The names and the rules of the commands, from their descriptions.
-use Rattle.std.proofs.Common.{◌≡◌, ◌∙◌, ◌++◌, ◌+◌, ◌<◌, ℕ, Bool, true, false, List, [], ◌∷◌, Option, Some, None, map, flat_map, drop, length, append-nil, append_assoc, slice_index_or, sym, ap, ap₂, fold, refl, true≢false}
+use Rattle.std.proofs.Common.{◌≡◌, ◌∙◌, ◌++◌, ◌+◌, ◌<◌, ℕ, Bool, true, false, List, [], ◌∷◌, Option, Some, None, map, flat_map, drop, length, append-nil, append_assoc, slice_index_or, sym, subst, ap, ap₂, fold, refl, true≢false}
 use Rattle.std.proofs.lemmas.List.{drop_all, drop_more}
+use Rattle.std.proofs.lemmas.Slice.Eq.{bytes_eq-Decides}
 use Rattle.std.proofs.lemmas.Option.{none-some}
 use Rattle.std.specs.Option.{is_some}
-use Rattle.std.specs.Prelude.{◌||◌, ◌≤◌, if◌then◌else◌}
+use Rattle.std.specs.Prelude.{◌||◌, ◌&&◌, ◌≤◌, if◌then◌else◌}
 use Rattle.std.specs.List.{list_any}
 use Rattle.std.specs.Str.{bytes_eq}
 use Rattle.clap.specs.Words.{App, Rule, Text}
 use Rattle.app_cli.specs.declared.command.Argument.{Argument}
 use Rattle.app_cli.specs.declared.command.Description.{Description}
-use Rattle.app_cli.specs.CommandLine.{command_list, described, with_word}
-use Rattle.app_cli.specs.Usages.{all_rules, command_names, is_option_named, option_value, rule_of_word}
+use Rattle.app_cli.specs.declared.command.Form.{Form}
+use Rattle.app_cli.specs.declared.command.Form.TheVariants as form
+use Rattle.app_cli.specs.CommandLine.{command_list, described, rule_in, with_word}
+use Rattle.app_cli.specs.Usages.{all_rules, command_names, is_among, is_option_named, option_value, rule_of_word}
 
 -- Arguments don't change the name of a command.
 folded_name : (words : List Argument) (command : App) → (fold with_word command words).top.name ≡ command.top.name
@@ -91,3 +94,41 @@ all_names see ds is = sym (names_of see ds) ∙ ap (map (λ c. c.top.name)) is
 -- The rules of all commands.
 pub all_of_rules : {D : Type 0} (see : D → Description) (ds : List D) → map (λ d. described (see d)) ds ≡ command_list → rules_of_all see ds ≡ all_rules
 all_of_rules see ds is = sym (rules_are see ds) ∙ ap (flat_map (λ c. c.top.rules)) is
+
+-- NAMES OF OPTIONS
+
+or_none : (a : Bool) → (a || false) ≡ a
+or_none true = refl
+or_none false = refl
+
+-- The rule of an argument has the argument's name.
+id_of : (form : Form) (id : Text) → (rule_in form id).id ≡ id
+id_of form.Place id = refl
+id_of form.Extra id = refl
+id_of form.Choice id = refl
+id_of form.Flag id = refl
+
+-- An argument that is no option adds no name.
+not_named : (long e a : Bool) → long ≡ false → a ≡ (a || (long && e))
+not_named true e a lacks = absurd (true≢false lacks)
+not_named false e a lacks = sym (or_none a)
+
+pub no_option : (name : Text) (word : Argument) (a : Bool) → is_some (rule_of_word word).long ≡ false → a ≡ (a || is_option_named name (rule_of_word word))
+no_option name word a lacks = not_named (is_some (rule_of_word word).long) (bytes_eq (rule_of_word word).id name) a lacks
+
+-- An option whose name is among the names adds none.
+known_if : (e long a : Bool) → (e ≡ true → a ≡ true) → a ≡ (a || (long && e))
+known_if true long a known = known refl ∙ sym (ap (λ z. z || (long && true)) (known refl))
+known_if false true a known = sym (or_none a)
+known_if false false a known = sym (or_none a)
+
+among_map : {D : Type 0} (see : D → Text) (name : Text) (ds : List D) → is_among name (map see ds) ≡ list_any (λ d. bytes_eq (see d) name) ds
+among_map see name [] = refl
+among_map see name (d ∷ ds) = ap (λ z. bytes_eq (see d) name || z) (among_map see name ds)
+
+pub known_option : {D : Type 0} (see : D → Text) (name : Text) (word : Argument) (names : List D) → list_any (λ d. bytes_eq (see d) word.id.now) names ≡ true
+    → is_among name (map see names) ≡ (is_among name (map see names) || is_option_named name (rule_of_word word))
+known_option see name word names among =
+    let here : is_among word.id.now (map see names) ≡ true = among_map see word.id.now names ∙ among in
+    known_if (bytes_eq (rule_of_word word).id name) (is_some (rule_of_word word).long) (is_among name (map see names))
+    (λ e. subst (λ n. is_among n (map see names) ≡ true) (sym (id_of word.form word.id.now) ∙ (bytes_eq-Decides (rule_of_word word).id name).0 e) here)

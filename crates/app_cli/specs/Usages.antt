@@ -1,6 +1,7 @@
 -- The names of the commands and of their options, for explanations of refused arguments.
 use Rattle.std.specs.Prelude.{◌≡◌, ◌&&◌, Bool, List, [], ◌∷◌, Option, Some, None, codes, false, flat_map, if◌then◌else◌, map, nat_eq, refl, true}
 use Rattle.std.specs.Option.{is_some}
+use Rattle.std.specs.List.{list_any}
 use Rattle.std.specs.Str.{bytes_eq}
 use Rattle.clap.specs.Words.{Rule, Text}
 use Rattle.app_cli.specs.declared.command.Argument.{Argument}
@@ -21,6 +22,14 @@ rule_of_word word = rule_in word.form word.id.now
 -- True if the rule is of the option with this name, without its `--`.
 abbrev pub is_option_named : Text → Rule → Bool
 is_option_named name rule = is_some rule.long && bytes_eq rule.id name
+
+-- True if a rule is of the option with this name.
+abbrev pub has_option : Text → List Rule → Bool
+has_option name rules = list_any (is_option_named name) rules
+
+-- True if the name is among these names.
+abbrev pub is_among : Text → List Text → Bool
+is_among name names = list_any (λ known. bytes_eq known name) names
 
 -- `Some true` if the first option with this name has a value, `Some false` if it has none; `None` without such an option.
 abbrev pub option_value : Text → List Rule → Option Bool

@@ -1,11 +1,10 @@
 //! Usages and options of the commands, for explanations of refused arguments.
 
-ghost use Rattle.std.specs.Prelude.{◌≡◌, IfOk, IfSome, map};
+ghost use Rattle.std.specs.Prelude.{◌≡◌, ◌||◌, IfOk, IfSome, OnOk, map};
 ghost use Rattle.std.specs.Option.{is_some};
-ghost use Rattle.std.specs.Str.{bytes_eq};
-ghost use Rattle.std.specs.List.{list_any};
 ghost use Rattle.std.specs.List.Sorted.{IsPermutation};
-ghost use Rattle.app_cli.specs.Usages.{all_rules, command_names, is_option_named, option_value, rule_of_word};
+ghost use Rattle.clap.specs.Words.{Text};
+ghost use Rattle.app_cli.specs.Usages.{all_rules, command_names, has_option, is_among, is_option_named, option_value, rule_of_word};
 
 use crate::command::{Argument, Description, Form, all_descriptions};
 use bridge_limits::NoMemory;
@@ -51,7 +50,7 @@ fn usage_of_command(command: &'static Description) -> Usage
 /// `show_explain` call it.
 pub fn find_usage(name: &str) -> Option<Usage>
     ensures name { IfSome result (λ usage. usage.name.now ≡ name.now) }
-    ensures known { is_some result ≡ list_any (λ known. bytes_eq known name.now) command_names }
+    ensures known { is_some result ≡ is_among name.now command_names }
 {
     for command in all_descriptions() {
         if command.name == name {
@@ -73,7 +72,7 @@ pub fn command_names(alloc: Global) -> Result<Vec<&'static str>, NoMemory>
     Ok(names)
 }
 
-/// Returns whether an argument is an option, with or without value. `is_option_named` and `push_options` call it.
+/// Returns whether an argument is an option, with or without value. `is_option_named` and `push_option` call it.
 fn is_option(word: &Argument) -> bool
     ensures { result ≡ is_some (rule_of_word word.now).long }
 {
@@ -114,20 +113,35 @@ pub fn has_value(name: &str) -> Option<bool>
     None
 }
 
-/// Appends to `names` the name of each option in `words` that isn't in `names` yet: several commands can have one option. `option_names`
-/// calls it.
-fn push_options(names: &mut Vec<&'static str>, words: &'static [Argument]) -> Result<(), NoMemory> {
+/// Appends the name of `word` to `names`, if `word` is an option and its name isn't in `names` yet: several commands can have one option.
+/// `push_options` calls it.
+fn push_option(names: &mut Vec<&'static str>, word: &'static Argument) -> Result<(), NoMemory>
+    ensures { OnOk result ((name : Text) → is_among name (map (λ known. known.now) names.new.items)
+        ≡ (is_among name (map (λ known. known.now) names.old.items) || is_option_named name (rule_of_word word.now))) }
+{
+    if is_option(word) && !names.contains(&word.id) {
+        names.push(word.id)?;
+    }
+    Ok(())
+}
+
+/// Appends to `names` the name of each option in `words` that isn't in `names` yet. `option_names` calls it.
+fn push_options(names: &mut Vec<&'static str>, words: &'static [Argument]) -> Result<(), NoMemory>
+    ensures { OnOk result ((name : Text) → is_among name (map (λ known. known.now) names.new.items)
+        ≡ (is_among name (map (λ known. known.now) names.old.items) || has_option name (map rule_of_word words.now))) }
+{
     for word in words {
-        if is_option(word) && !names.contains(&word.id) {
-            names.push(word.id)?;
-        }
+        push_option(names, word)?;
     }
     Ok(())
 }
 
 /// Returns the names of all commands' options, without `--`, sorted, for the search of the nearest name. `put_unknown_option` of
 /// `show_explain` calls it.
-pub fn option_names(alloc: Global) -> Result<Vec<&'static str>, NoMemory> {
+pub fn option_names(alloc: Global) -> Result<Vec<&'static str>, NoMemory>
+    ensures { IfOk result (λ names. (name : Text) → is_among name (map (λ known. known.now) names.items)
+        ≡ has_option name all_rules) }
+{
     let mut names = Vec::new(alloc);
     for command in all_descriptions() {
         push_options(&mut names, command.words)?;

@@ -52,8 +52,10 @@ impl<'a> NetworkText<'a> {
         put_position(said, self.position(section, index, key));
     }
 
-    /// Appends the line of `key` in parentheses, such as ` (line 15)`; nothing if the document lacks it. `index` is the number of the
-    /// instance in its section, from 1. `put_twice`, and `put_twice` of `net_check` call it, to name the earlier of two entries.
+    /// Appends the line of `key`, such as ` (line 15)`; nothing if the document lacks it. `index` is the number of the instance in its
+    /// section, from 1.
+    ///
+    /// `put_twice`, and `put_earlier_link` of `net_check` call it for the earlier of two entries.
     pub fn put_line(
         self,
         said: &mut TextBuilder<Global>,
