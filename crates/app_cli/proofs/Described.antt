@@ -1,9 +1,10 @@
 -- The arguments of a command, one after the other.
-use Rattle.std.proofs.Common.{◌≡◌, ◌∙◌, ◌<◌, ◌+◌, ℕ, Bool, ◌||◌, List, length, take, sym, ap, ap₂, fold, slice_index_or, false, Result, Ok, Err, IfOk}
+use Rattle.std.proofs.Common.{◌≡◌, ◌∙◌, ◌<◌, ◌+◌, ℕ, Bool, ◌||◌, List, [], ◌∷◌, length, map, take, refl, sym, ap, ap₂, fold, slice_index_or, false, Result, Ok, Err, IfOk}
 use Rattle.std.proofs.lemmas.List.Sums.{fold_more}
 use Rattle.clap.specs.Words.{App, Rule, with_rule, with_subcommand}
 use Rattle.app_cli.specs.declared.command.Argument.{Argument}
-use Rattle.app_cli.specs.CommandLine.{bounds_command, check_command, commands, net_command, picture_command, program, rule_in, run_command, wire_command, with_word}
+use Rattle.app_cli.specs.declared.command.Description.{Description}
+use Rattle.app_cli.specs.CommandLine.{command_list, commands, described, program, rule_in, with_word}
 
 -- The command with one more argument.
 pub one_more : (start before after : App) (words : List Argument) (i : ℕ) (d : Argument) (rule : Rule) → i < length words
@@ -21,13 +22,16 @@ pub one_further : {D : Type 0} (f : App → D → App) (start before after : App
     → before ≡ fold f start (take i list) → after ≡ f before (slice_index_or list i d) → after ≡ fold f start (take (i + 1) list)
 one_further f start before after list i d lt is grown = grown ∙ ap (λ a. f a (slice_index_or list i d)) is ∙ sym (fold_more f start list i d lt)
 
--- The program with its six commands.
-pub all_six : (start wire check run picture bounds net : App) → start ≡ program → wire ≡ wire_command → check ≡ check_command → run ≡ run_command → picture ≡ picture_command
-    → bounds ≡ bounds_command → net ≡ net_command
-    → with_subcommand (with_subcommand (with_subcommand (with_subcommand (with_subcommand (with_subcommand start wire.top) check.top) run.top) picture.top) bounds.top) net.top ≡ commands
-all_six start wire check run picture bounds net s w c r p b n =
-    let more : (before : App) (command : App) → App = λ a d. with_subcommand a d.top in
-    ap₂ more (ap₂ more (ap₂ more (ap₂ more (ap₂ more (ap₂ more s w) c) r) p) b) n
+-- A program to which described commands are added, one after the other.
+folded : {D : Type 0} (see : D → Description) (start : App) (ds : List D)
+    → fold (λ app d. with_subcommand app (described (see d)).top) start ds ≡ fold (λ app c. with_subcommand app c.top) start (map (λ d. described (see d)) ds)
+folded see start [] = refl
+folded see start (d ∷ ds) = folded see (with_subcommand start (described (see d)).top) ds
+
+-- The program with all commands.
+pub all_added : {D : Type 0} (see : D → Description) (start : App) (ds : List D) → start ≡ program → map (λ d. described (see d)) ds ≡ command_list
+    → fold (λ app d. with_subcommand app (described (see d)).top) start ds ≡ commands
+all_added see start ds begin are = folded see start ds ∙ ap₂ (λ app cs. fold (λ a c. with_subcommand a c.top) app cs) begin are
 
 -- A result that equals `x` equals a `y` that is equal to `x`.
 pub same_if : {T E : Type 0} (f : T → App) (x y : App) (r : Result T E) → IfOk r (λ c. f c ≡ x) → x ≡ y → IfOk r (λ c. f c ≡ y)

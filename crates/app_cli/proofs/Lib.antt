@@ -2,3 +2,4 @@ pub mod Asked
 pub mod Described
 pub mod Parsed
 pub mod Parts
+pub mod Usages

@@ -1,5 +1,5 @@
 -- The arguments as `clap` reads them, and the command that they request.
-use Rattle.std.specs.Prelude.{◌≡◌, ◌≤◌, ℕ, List, [], Option, None, Some, true, codes, fold, option_map, string_bytes}
+use Rattle.std.specs.Prelude.{◌≡◌, ◌≤◌, ℕ, List, [], ◌∷◌, Option, None, Some, true, codes, fold, option_map, string_bytes}
 use Rattle.std.specs.Str.Parse.{digits_value}
 use Rattle.bridge_frame.specs.declared.Speed.{Speed}
 use Rattle.bridge_port.specs.declared.queues.TheConstants.{LARGEST_ROOM}
@@ -68,6 +68,10 @@ abbrev pub net_command : App
 net_command = with_rule (with_rule (with_rule (with_rule (with_rule (with_rule (new_app (codes "net"))
     (word_named (codes "first"))) (word_named (codes "second"))) (extra_named (codes "output"))) (option_named (codes "picture")))
     (flag_named (codes "strict"))) (flag_named (codes "explain"))
+
+-- The commands in the order of the help.
+abbrev pub command_list : List App
+command_list = wire_command ∷ check_command ∷ run_command ∷ picture_command ∷ bounds_command ∷ net_command ∷ []
 
 -- The program without commands. Its arguments don't begin with its name, and it and each command have a version.
 abbrev pub program : App

@@ -4,3 +4,4 @@ pub mod Helping
 pub mod Examples
 pub mod Sketching
 pub mod Tabling
+pub mod Usages

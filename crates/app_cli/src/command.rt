@@ -2,7 +2,7 @@
 ghost use Rattle.std.specs.Prelude.{◌≡◌, ◌≢◌, [], IfOk, IfErr, false, map, string_bytes, fold};
 ghost use Rattle.clap.specs.Words.{FailsBy, app_of, fault_of, kind_of, rule_of, subcommand_of, subcommand_rows_of, with_subcommand};
 ghost use Rattle.clap.specs.declared.builder.command.Command.TheViews.{out-Command as fields_of};
-ghost use Rattle.app_cli.specs.CommandLine.{bounds_command, check_command, commands, described, net_command, picture_command, program, rule_in, run_command, wire_command, with_word};
+ghost use Rattle.app_cli.specs.CommandLine.{bounds_command, check_command, command_list, commands, described, net_command, picture_command, program, rule_in, run_command, wire_command, with_word};
 
 use clap::error::ErrorKind;
 use clap::{Arg, ArgAction, ArgMatches, Command, Error};
@@ -406,25 +406,23 @@ pub const OPTIONS: &str =
 /// Version of the program.
 const VERSION: &str = "1.0.0";
 
-/// Number of commands.
-pub const COMMANDS: usize = 6;
-
-/// Returns the command at index `place`, in the order of the help; `None` after the last. `push_command_help`, `find_usage` and 3 more call
+/// Returns the descriptions of all commands, in the order of the help. `commands_of`, `push_command_help`, and functions of `usage.rt` call
 /// it.
-pub fn command_description(place: usize) -> Option<&'static Description> {
-    match place {
-        0 => Some(wire_description()),
-        1 => Some(check_description()),
-        2 => Some(run_description()),
-        3 => Some(picture_description()),
-        4 => Some(bounds_description()),
-        5 => Some(net_description()),
-        _ => None,
-    }
+pub(crate) fn all_descriptions() -> [&'static Description; 6]
+    ensures { map (λ d. described d.now) result ≡ command_list }
+{
+    [
+        wire_description(),
+        check_description(),
+        run_description(),
+        picture_description(),
+        bounds_description(),
+        net_description(),
+    ]
 }
 
 /// Returns the command `wire`: arguments, usage, help texts. The contract states that it is the definition `wire_command`.
-/// `command_description` and `commands_of` call it.
+/// `all_descriptions` calls it.
 fn wire_description() -> &'static Description
     ensures { described result.now ≡ wire_command }
 {
@@ -432,7 +430,7 @@ fn wire_description() -> &'static Description
 }
 
 /// Returns the command `check`: arguments, usage, help texts. The contract states that it is the definition `check_command`.
-/// `command_description` and `commands_of` call it.
+/// `all_descriptions` calls it.
 fn check_description() -> &'static Description
     ensures { described result.now ≡ check_command }
 {
@@ -440,7 +438,7 @@ fn check_description() -> &'static Description
 }
 
 /// Returns the command `run`: arguments, usage, help texts. The contract states that it is the definition `run_command`.
-/// `command_description` and `commands_of` call it.
+/// `all_descriptions` calls it.
 fn run_description() -> &'static Description
     ensures { described result.now ≡ run_command }
 {
@@ -448,7 +446,7 @@ fn run_description() -> &'static Description
 }
 
 /// Returns the command `picture`: arguments, usage, help texts. The contract states that it is the definition `picture_command`.
-/// `command_description` and `commands_of` call it.
+/// `all_descriptions` calls it.
 fn picture_description() -> &'static Description
     ensures { described result.now ≡ picture_command }
 {
@@ -456,7 +454,7 @@ fn picture_description() -> &'static Description
 }
 
 /// Returns the command `bounds`: arguments, usage, help texts. The contract states that it is the definition `bounds_command`.
-/// `command_description` and `commands_of` call it.
+/// `all_descriptions` calls it.
 fn bounds_description() -> &'static Description
     ensures { described result.now ≡ bounds_command }
 {
@@ -464,7 +462,7 @@ fn bounds_description() -> &'static Description
 }
 
 /// Returns the command `net`: arguments, usage, help texts. The contract states that it is the definition `net_command`.
-/// `command_description` and `commands_of` call it.
+/// `all_descriptions` calls it.
 fn net_description() -> &'static Description
     ensures { described result.now ≡ net_command }
 {
@@ -491,15 +489,7 @@ fn commands_of<'a>(alloc: Global) -> Result<Command<'a>, AllocError>
     ensures { IfOk result (λ c. app_of c ≡ commands) }
 {
     let program = build_bare_program(alloc)?;
-    let in_help = [
-        wire_description(),
-        check_description(),
-        run_description(),
-        picture_description(),
-        bounds_description(),
-        net_description(),
-    ];
-    with_commands(alloc, program, &in_help)
+    with_commands(alloc, program, &all_descriptions())
 }
 
 /// Returns the `clap` program with the commands of `descriptions` added, in order. `commands_of` calls it.

@@ -5,7 +5,6 @@ ghost use Rattle.clap.specs.Words.{Text, fault_of, first_of, found_of, kind_of, 
 ghost use Rattle.app_cli.specs.declared.job.Command.{Command};
 ghost use Rattle.app_cli.specs.CommandLine.{AsksFor, AsksForBounds, AsksForCheck, AsksForNetwork, AsksForNetworkRun, AsksForPicture, AsksForRun, AsksForWire, HasRoom, IsBoundsJob, IsCheckJob, IsNetworkJob, IsPictureJob, IsRunJob, IsWireJob, commands, fault_of_kind};
 
-use crate::command::parse_arguments;
 use crate::number::{parse_room, parse_speed};
 use crate::words_fault::ArgumentsFault;
 use bridge_frame::Speed;
@@ -77,26 +76,8 @@ pub enum Command {
     },
 }
 
-/// Returns the command that the arguments after the program's name request; `Text` without arguments. Fails with `Words` for all other
-/// arguments, including requests for help or the version.
-///
-/// Callers that need no options of the request call it.
-pub fn parse_job(alloc: Global, words: &[String]) -> Result<Command, ArgumentsFault>
-    ensures ok { IfOk result (AsksFor (map string_bytes words.now)) }
-    ensures room { IfOk result HasRoom }
-    ensures words { result ≡ Err ArgumentsFault.Words → (job : Command) → ¬ AsksFor (map string_bytes words.now) job }
-{
-    if words.is_empty() {
-        return Ok(Command::Text);
-    }
-    match parse_arguments(alloc, words) {
-        Ok(matches) => job_by_matches(alloc, words, &matches),
-        Err(error) => Err(argument_fault(&error)),
-    }
-}
-
 /// Returns the command that `matches` names, with its values from `clap`. At least one argument is required. Fails with `Words` if the
-/// arguments request no valid command, or with `NoMemory`. `parse_job` and `request_by_matches` call it.
+/// arguments request no valid command, or with `NoMemory`. `request_by_matches` calls it.
 pub(crate) fn job_by_matches(
     alloc: Global,
     words: &[String],
@@ -381,8 +362,8 @@ pub(crate) fn optional_text(
     }
 }
 
-/// Returns the fault of arguments that `clap` refuses: `NoMemory` if memory ran out, otherwise `Words`. `parse_job`,
-/// `parse_picture_request` and 2 more call it.
+/// Returns the fault of arguments that `clap` refuses: `NoMemory` if memory ran out, otherwise `Words`. `parse_request`
+/// calls it.
 pub(crate) fn argument_fault(error: &Error) -> ArgumentsFault
     ensures { result ≡ fault_of_kind (kind_of error.now) }
 {

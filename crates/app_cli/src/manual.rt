@@ -1,7 +1,7 @@
 //! The help of the program and all its commands as one text. A test prints it, and `tools/commands` makes the page Commands from that.
 ghost use Rattle.std.specs.Prelude.{◌≡◌, IfErr, IfOk, map, string_bytes};
 
-use crate::command::{COMMANDS, command_description};
+use crate::command::all_descriptions;
 use crate::helping::requested_help;
 use crate::words_fault::ArgumentsFault;
 use std::alloc::{AllocError, Global};
@@ -21,11 +21,9 @@ pub fn help_text(alloc: Global) -> Result<String, ArgumentsFault>
 fn push_command_help(alloc: Global, manual: &mut String) -> Result<(), ArgumentsFault>
     ensures { IfErr result (λ fault. fault ≡ ArgumentsFault.NoMemory) }
 {
-    for place in 0..COMMANDS {
-        if let Some(command) = command_description(place) {
-            manual.push_str("\n")?;
-            push_help(alloc, manual, &[command.name, "--help"])?;
-        }
+    for command in &all_descriptions() {
+        manual.push_str("\n")?;
+        push_help(alloc, manual, &[command.name, "--help"])?;
     }
     Ok(())
 }

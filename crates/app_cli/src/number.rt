@@ -6,9 +6,9 @@ ghost use Rattle.bridge_frame.specs.declared.Speed.{Speed};
 ghost use Rattle.app_cli.specs.Numbers.{IsMoment, IsRoom, IsSpeed};
 
 use bridge_frame::Speed;
-use bridge_limits::END_OF_TIME;
+use bridge_limits::{END_OF_TIME, NoMemory};
 use bridge_port::LARGEST_ROOM;
-use std::alloc::{AllocError, Global};
+use std::alloc::Global;
 
 /// Reads a number below 2^32 from one or more decimal digits. Returns `None` for a sign, other characters, or a larger number.
 /// `parse_room`, `parse_speed` and 2 more call it.
@@ -73,7 +73,7 @@ pub(crate) fn is_number_list(word: &str) -> bool {
 
 /// Returns the numbers of a list separated by commas. Skips parts that aren't numbers below 2^32. `parse_numbers` of `app_commands` calls
 /// it.
-pub fn parse_number_list(alloc: Global, list: &str) -> Result<Vec<u32>, AllocError> {
+pub fn parse_number_list(alloc: Global, list: &str) -> Result<Vec<u32>, NoMemory> {
     let mut numbers = Vec::new(alloc);
     for part in list.split(',') {
         if let Some(number) = parse_number(part) {

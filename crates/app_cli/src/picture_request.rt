@@ -1,12 +1,10 @@
 //! Finds the picture of a run, or of part of a plan, that the arguments request.
 ghost use Rattle.std.specs.Prelude.{◌≡◌, ◌≢◌, ◌↔◌, Err, None, Some, IfOk, IfErr, IsTrue, List, codes, false, map, option_map, string_bytes};
 ghost use Rattle.clap.specs.Words.{Row, first_of, found_of, rows_of, subcommand_of, subcommand_rows_of};
-ghost use Rattle.app_cli.specs.declared.job.Command.{Command};
-ghost use Rattle.app_cli.specs.CommandLine.{AsksFor, commands};
+ghost use Rattle.app_cli.specs.CommandLine.{commands};
 ghost use Rattle.app_cli.specs.Sketching.{AreInOrder, AsksForPart, AsksForSketch, HasNoPart, IsBound, IsSketch, NamesPart};
 
-use crate::command::parse_arguments;
-use crate::job::{argument_fault, argument_value, optional_text};
+use crate::job::{argument_value, optional_text};
 use crate::number::{is_number_list, parse_time};
 use crate::words_fault::ArgumentsFault;
 use clap::ArgMatches;
@@ -27,30 +25,8 @@ pub struct PictureRequest {
     pub filters: Option<String>,
 }
 
-/// Returns the picture that the arguments request with a run, or the requested part of a plan's picture; `None` for other commands.
-///
-/// Fails with `Words` for an invalid time, list or order of times. Callers that need no other part of the request call it.
-pub fn parse_picture_request(
-    alloc: Global,
-    words: &[String],
-) -> Result<Option<PictureRequest>, ArgumentsFault>
-    ensures ok { IfOk result (λ sketch. (values : List Row)
-        → subcommand_of commands (map string_bytes words.now) ≡ Some (codes "run", values)
-        → AsksForSketch values sketch) }
-    ensures part { IfOk result (λ sketch. (values : List Row)
-        → subcommand_of commands (map string_bytes words.now) ≡ Some (codes "picture", values)
-        → AsksForPart values sketch) }
-    ensures words { result ≡ Err ArgumentsFault.Words → (job : Command) → AsksFor (map string_bytes words.now) job
-        → NamesPart (map string_bytes words.now) }
-{
-    match parse_arguments(alloc, words) {
-        Ok(matches) => picture_by_matches(alloc, words, &matches),
-        Err(error) => Err(argument_fault(&error)),
-    }
-}
-
 /// Returns the requested picture, by the values that `clap` found. Returns `None` for commands without picture options. Fails with `Words`
-/// if an option has a wrong value, or with `NoMemory`. `parse_picture_request` and `request_by_matches` call it.
+/// if an option has a wrong value, or with `NoMemory`. `request_by_matches` calls it.
 pub(crate) fn picture_by_matches(
     alloc: Global,
     words: &[String],

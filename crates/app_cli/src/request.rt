@@ -133,7 +133,7 @@ pub fn wants_explanation(words: &[String]) -> bool
 
 /// Returns whether `--strict` is among the arguments before the first `--`. It makes warnings about accepted plans and networks errors.
 /// `request_by_matches` calls it.
-pub fn wants_strictness(words: &[String]) -> bool
+fn wants_strictness(words: &[String]) -> bool
     ensures { result ≡ is_strict (map string_bytes words.now) }
 {
     has_flag(words, "--strict")

@@ -1,12 +1,10 @@
 //! Finds the tables of a run that the arguments request.
-ghost use Rattle.std.specs.Prelude.{◌≡◌, Err, Some, IfOk, IfErr, List, codes, map, option_map, string_bytes};
+ghost use Rattle.std.specs.Prelude.{◌≡◌, Some, IfOk, IfErr, List, codes, map, option_map, string_bytes};
 ghost use Rattle.clap.specs.Words.{Row, first_of, found_of, rows_of, subcommand_of, subcommand_rows_of};
-ghost use Rattle.app_cli.specs.declared.job.Command.{Command};
-ghost use Rattle.app_cli.specs.CommandLine.{AsksFor, commands};
+ghost use Rattle.app_cli.specs.CommandLine.{commands};
 ghost use Rattle.app_cli.specs.Tabling.{AsksForTables};
 
-use crate::command::parse_arguments;
-use crate::job::{argument_fault, optional_text};
+use crate::job::optional_text;
 use crate::words_fault::ArgumentsFault;
 use clap::ArgMatches;
 use std::alloc::Global;
@@ -20,23 +18,8 @@ pub struct TableRequest {
     pub frames: Option<String>,
 }
 
-/// Returns the tables that the arguments request with a run, by `--delays FILE` and `--frames FILE`; no tables for other commands.
-///
-/// Fails with `Words` for arguments that `clap` refuses. Callers that need no other part of the request call it.
-pub fn parse_table_request(alloc: Global, words: &[String]) -> Result<TableRequest, ArgumentsFault>
-    ensures ok { IfOk result (λ tables. (values : List Row)
-        → subcommand_of commands (map string_bytes words.now) ≡ Some (codes "run", values)
-        → AsksForTables values tables) }
-    ensures words { result ≡ Err ArgumentsFault.Words → (job : Command) → ¬ AsksFor (map string_bytes words.now) job }
-{
-    match parse_arguments(alloc, words) {
-        Ok(matches) => tables_by_matches(alloc, words, &matches),
-        Err(error) => Err(argument_fault(&error)),
-    }
-}
-
 /// Returns the requested tables of a run, by the values that `clap` found. Other commands have no tables. Fails only if memory runs out.
-/// `request_by_matches` and `parse_table_request` call it.
+/// `request_by_matches` calls it.
 pub(crate) fn tables_by_matches(
     alloc: Global,
     words: &[String],

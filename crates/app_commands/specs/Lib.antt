@@ -12,3 +12,4 @@ pub mod Notes
 pub mod CommandOutputs
 pub mod RunJobs
 pub mod ReadTexts
+pub mod Explanations

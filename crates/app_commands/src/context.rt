@@ -1,4 +1,6 @@
 //! What the commands receive: arguments of `run`, options, and the texts that they read.
+ghost use Rattle.std.specs.Prelude.{◌≡◌, []};
+
 use app_cli::{PictureRequest, TableRequest};
 use std::alloc::Global;
 
@@ -41,7 +43,10 @@ pub struct Texts {
 
 impl Texts {
     /// Returns the texts of a command that hasn't read any. `request_output` of `app_networks` calls it.
-    pub fn new(alloc: Global) -> Texts {
+    pub fn new(alloc: Global) -> Texts
+        ensures plan { result.plan.items ≡ [] }
+        ensures commands { result.commands.items ≡ [] }
+    {
         Texts {
             plan: Vec::new(alloc),
             commands: Vec::new(alloc),

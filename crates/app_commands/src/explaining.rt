@@ -1,6 +1,8 @@
 //! Explains failures, and finds the warnings of a run.
 //!
 //! These functions never fail: if memory runs out, the explanation is left out.
+ghost use Rattle.app_commands.specs.Explanations.{BeginsWithPath, ExplainsFile, ExplainsWords};
+
 use crate::context::{RunRequest, Texts};
 use crate::late::{Last, put_late};
 use app_failure::Failure;
@@ -23,7 +25,9 @@ const FRONT: u64 = 64;
 
 /// Explains why arguments, hexadecimal text, or standard input and output failed. Returns `None` for other failures without a file, or if
 /// memory runs out. `report_words`, and `explain_failure` of `app_networks` call it.
-pub fn explain_words_fault(alloc: Global, words: &[String], fault: &Failure) -> Option<String> {
+pub fn explain_words_fault(alloc: Global, words: &[String], fault: &Failure) -> Option<String>
+    ensures { ExplainsWords fault.now result }
+{
     match fault {
         Failure::Words => explain_arguments(alloc, words).ok(),
         Failure::Text(fault) => explain_text(alloc, fault).ok(),
@@ -34,7 +38,9 @@ pub fn explain_words_fault(alloc: Global, words: &[String], fault: &Failure) -> 
 /// Explains a failed file (`Failure::File`) by its path and cause. Returns `None` for other failures, or if memory runs out.
 ///
 /// `explain_words_fault`, `explain_plan_fault`, `explain_wire_fault`, and `explain_network_file` of `app_networks` call it.
-pub fn explain_file_fault(alloc: Global, fault: &Failure) -> Option<String> {
+pub fn explain_file_fault(alloc: Global, fault: &Failure) -> Option<String>
+    ensures { ExplainsFile fault.now result }
+{
     match fault {
         Failure::File(error) => explain_file_cause(alloc, error.path(), error.cause()),
         _ => None,
@@ -43,7 +49,9 @@ pub fn explain_file_fault(alloc: Global, fault: &Failure) -> Option<String> {
 
 /// Explains why the file at `path` failed. Escapes control characters in the path, so that it has one line. Returns `None` if memory runs
 /// out. `explain_file_fault`, and `explain_unread` of `app_networks` call it.
-pub fn explain_file_cause(alloc: Global, path: &str, cause: Cause) -> Option<String> {
+pub fn explain_file_cause(alloc: Global, path: &str, cause: Cause) -> Option<String>
+    ensures { BeginsWithPath path.now result }
+{
     let shown = escape_text(alloc, path).ok()?;
     explain_file(alloc, shown.as_str(), cause).ok()
 }

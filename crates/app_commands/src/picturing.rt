@@ -116,7 +116,7 @@ fn draw_selected_run(
 /// `draw_selected_plan` and `draw_selected_run` call it.
 fn parse_numbers(alloc: Global, list: &Option<String>) -> Result<Vec<u32>, NoMemory> {
     match list {
-        Some(list) => Ok(parse_number_list(alloc, list.as_str())?),
+        Some(list) => parse_number_list(alloc, list.as_str()),
         None => Ok(Vec::new(alloc)),
     }
 }

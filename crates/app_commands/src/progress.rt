@@ -25,11 +25,6 @@ const BIG_ENDIAN: u8 = 0xa1;
 /// Length of a record's header in octets.
 const RECORD_HEADER_LENGTH: usize = 16;
 
-/// Writes a line over the line before it on standard error. If that fails, the run goes on without the line.
-pub fn show_line(rt: &impl Eprint, line: &str) {
-    let _ = eprint!(rt; "\r{line}\x1b[K");
-}
-
 /// Removes the progress line from standard error. `Progress::clear` and `ProgressPrinter::clear` of `app_networks` call it.
 pub fn clear_line(rt: &impl Eprint) {
     let _ = eprint!(rt; "\r\x1b[K");

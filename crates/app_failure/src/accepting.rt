@@ -77,7 +77,7 @@ fn counts_line<A: Allocator + Copy>(
 /// Returns the line for an accepted plan, with its line feed. It has the numbers of protected filters, of grouped filters if there are any,
 /// and of all filters.
 ///
-/// `check_job` and `check_of_accepted` of `app_commands` call it.
+/// `check_of_accepted` of `app_commands` calls it.
 pub fn check_line<A: Allocator + Copy>(
     alloc: A,
     accepted: &Accepted<A>,

@@ -1,9 +1,9 @@
-//! Reads and checks plans from readers, and returns the line to print.
-ghost use Rattle.std.specs.Prelude.{◌≡◌, ℕ, List, Some, Ok, IfOk, IfErr, string_bytes};
+//! Reads and checks plans from readers.
+ghost use Rattle.std.specs.Prelude.{◌≡◌, ℕ, List, Some, Ok, IfOk, IfErr};
 ghost use Rattle.bridge_config.specs.Document.{text_plan};
-ghost use Rattle.app_failure.specs.Jobs.{Accepts, EndsCheck, EndsPlan, PrintsAccepted};
+ghost use Rattle.app_failure.specs.Jobs.{Accepts, EndsCheck, EndsPlan};
 
-use crate::accepting::{check_isolation, check_line};
+use crate::accepting::check_isolation;
 use crate::fault::{Failure, file_failure};
 use app_files::read_named;
 use bridge_check::Accepted;
@@ -14,7 +14,7 @@ use std::io::Read;
 /// Reads a plan from a reader, and accepts it if it isolates each of its protected filters and groups. If the reader fails, the failure
 /// names `path`. The text's document uses `heap`, the plan `alloc`.
 ///
-/// `check_job`, `check_text` of `app_commands` and 4 more call it.
+/// `check_text` of `app_commands` and 4 more call it.
 pub fn read_accepted_plan<R: Read + Drop, A: Allocator + Copy>(
     alloc: A,
     heap: Global,
@@ -55,29 +55,5 @@ pub fn read_plan<R: Read + Drop, A: Allocator + Copy>(
             Err(fault) => Err(Failure::Plan(fault)),
         },
         Err(fault) => Err(file_failure(fault)),
-    }
-}
-
-/// Reads and checks a plan, and returns the line to print. If the reader fails, the failure names `path`. Only test programs call it.
-pub fn check_job<R: Read + Drop, A: Allocator + Copy>(
-    alloc: A,
-    heap: Global,
-    path: &str,
-    reader: R,
-) -> Result<String<A>, Failure>
-    ensures ok { (input : List ℕ) → R.remaining reader ≡ Some input
-        → IfOk result (λ line. PrintsAccepted A input (string_bytes line)) }
-    ensures err { (input : List ℕ) → R.remaining reader ≡ Some input
-        → IfErr result (EndsCheck A path.now input) }
-{
-    let accepted = match read_accepted_plan(alloc, heap, path, reader) {
-        Ok(accepted) => accepted,
-        Err(fault) => return Err(fault),
-    };
-    let line = check_line(alloc, &accepted);
-    drop(accepted);
-    match line {
-        Ok(line) => Ok(line),
-        Err(_) => Err(Failure::NoMemory),
     }
 }

@@ -16,5 +16,5 @@ pub use accepting::{accepted_plan, check_line};
 pub use bridge_limits::NoMemory;
 pub use commanding::read_commands_and_check;
 pub use fault::{Failure, TextFault, file_failure};
-pub use jobs::{check_job, read_accepted_plan, read_plan};
+pub use jobs::{read_accepted_plan, read_plan};
 pub use line::{fault_line, print, print_fault};

@@ -1,6 +1,7 @@
 -- Faults of files, with the path of the failed file.
 use Rattle.std.specs.Prelude.{◌≡◌, ℕ, List, string_bytes}
 use Rattle.bridge_limits.specs.Members.{IsMember}
+use Rattle.app_files.specs.declared.cause.Cause.{Cause}
 use Rattle.app_files.specs.declared.failed_file.Access.{Access}
 use Rattle.app_files.specs.declared.failed_file.Access.TheVariants.{Reading, Writing}
 use Rattle.app_files.specs.declared.failed_file.FileError.{FileError}
@@ -16,6 +17,11 @@ IsErrorOf access path e = (e.access ≡ access) × (string_bytes e.path ≡ path
 abbrev pub IsOfPath : Access → List ℕ → FileFault → Type 0
 IsOfPath access path (fault.File e) = IsErrorOf access path e
 IsOfPath access path fault.NoMemory = Unit {0}
+
+-- Holds if the fault has this cause, or memory ran out.
+abbrev pub HasCause : Cause → FileFault → Type 0
+HasCause cause (fault.File e) = e.cause ≡ cause
+HasCause cause fault.NoMemory = Unit {0}
 
 -- Holds if `path` is the path of the capture of one of these ports in a folder.
 abbrev pub IsCapture : List ℕ → List ℕ → List ℕ → Type 0

@@ -85,14 +85,6 @@ impl<'a, H: AllocGlobal + Files> CommandFiles<'a, H> {
         Ok(())
     }
 
-    /// Adds the existing files at `paths` to the files in use. Missing files are ignored.
-    pub fn note_paths(&mut self, paths: &[String]) -> Result<(), NoMemory> {
-        for path in paths {
-            add_file(&mut self.in_use, path_file_id(self.rt, path.as_str()))?;
-        }
-        Ok(())
-    }
-
     /// Adds the regular file at `path`, if it exists, to the files in use. Ignores pipes and devices: they lose nothing if written.
     /// `note_standard_output`, and `note_captures` and `files_of_run` of `app_commands` call it.
     pub fn note_regular(&mut self, path: &str) -> Result<(), NoMemory> {
@@ -245,9 +237,7 @@ impl<H: AllocGlobal + Files> ReadFiles for CommandFiles<'_, H> {
 }
 
 /// Opens the file at `path` for reading. Doesn't add it to files in use: commands that write no file need none. Fails with the path and
-/// cause if the file can't be opened.
-///
-/// `open` and `read_text_file` call it.
+/// cause if the file can't be opened. `open` calls it.
 pub fn open_input<H: AllocGlobal + Files>(rt: &H, path: &str) -> Result<H::File, FileFault>
     ensures { IfErr result (IsOfPath Reading path.now) }
 {
@@ -257,8 +247,8 @@ pub fn open_input<H: AllocGlobal + Files>(rt: &H, path: &str) -> Result<H::File,
     }
 }
 
-/// Reads at most `most` octets of an open file. The file fault names `path`, with the cause of the failed read. `read` and
-/// `read_text_file`, and `bound_traffic` of `app_networks` call it.
+/// Reads at most `most` octets of an open file. The file fault names `path`, with the cause of the failed read. `read`, and
+/// `bound_traffic` of `app_networks` call it.
 pub fn read_open<R: Read + Drop>(
     rt: &(impl AllocGlobal + Files),
     path: &str,
@@ -279,15 +269,6 @@ pub fn read_open<R: Read + Drop>(
             Err(input_fault(rt.alloc(), path, read_cause(rt, path, &error)))
         }
     }
-}
-
-/// Reads at most `MOST_TEXT` octets of the file at `path`. Doesn't add it to files in use. Fails with the path and cause if the file can't
-/// be read. Only test programs call it.
-pub fn read_text_file<H: AllocGlobal + Files>(rt: &H, path: &str) -> Result<Vec<u8>, FileFault>
-    ensures { IfErr result (IsOfPath Reading path.now) }
-{
-    let reader = open_input(rt, path)?;
-    read_open(rt, path, reader, MOST_TEXT)
 }
 
 /// Opens the captures of `ports` in a folder for reading, in list order. Fails at the first capture that can't be opened. `send_named` of

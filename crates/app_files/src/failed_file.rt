@@ -2,7 +2,7 @@
 //!
 //! Only this crate makes file faults, in the function whose call failed.
 ghost use Rattle.std.specs.Prelude.{◌≡◌, string_bytes};
-ghost use Rattle.app_files.specs.FailedFiles.{IsOfPath};
+ghost use Rattle.app_files.specs.FailedFiles.{HasCause, IsOfPath};
 ghost use Rattle.app_files.specs.declared.failed_file.FileFault.TheVariants.{NoMemory as no_memory};
 ghost use Rattle.app_files.specs.declared.failed_file.Access.TheVariants.{Reading, Writing};
 
@@ -79,7 +79,8 @@ impl From<AllocError> for FileFault {
 /// Returns the file fault of the file at `path`. If memory for the path runs out, returns `NoMemory` instead. `input_fault` and
 /// `output_fault` call it.
 pub(crate) fn file_fault(alloc: Global, access: Access, path: &str, cause: Cause) -> FileFault
-    ensures { IsOfPath access path.now result }
+    ensures path { IsOfPath access path.now result }
+    ensures cause { HasCause cause result }
 {
     match String::from_str(alloc, path) {
         Ok(path) => FileFault::File(FileError {
@@ -93,14 +94,16 @@ pub(crate) fn file_fault(alloc: Global, access: Access, path: &str, cause: Cause
 
 /// Returns the file fault of the input at `path`.
 pub(crate) fn input_fault(alloc: Global, path: &str, cause: Cause) -> FileFault
-    ensures { IsOfPath Reading path.now result }
+    ensures path { IsOfPath Reading path.now result }
+    ensures cause { HasCause cause result }
 {
     file_fault(alloc, Access::Reading, path, cause)
 }
 
 /// Returns the file fault of the output at `path`.
 pub(crate) fn output_fault(alloc: Global, path: &str, cause: Cause) -> FileFault
-    ensures { IsOfPath Writing path.now result }
+    ensures path { IsOfPath Writing path.now result }
+    ensures cause { HasCause cause result }
 {
     file_fault(alloc, Access::Writing, path, cause)
 }

@@ -12,7 +12,7 @@ mod writing;
 pub use cause::{Cause, is_file, read_cause};
 pub use command_files::{
     CommandFiles, ReadFiles, create_apart, make_folder, open_capture, open_captures, open_input,
-    read_open, read_text_file, refuse_same_folder,
+    read_open, refuse_same_folder,
 };
 pub use failed_file::{Access, FileError, FileFault};
 pub use output::{FileId, Output, Said, is_standard, open_file_id, path_file_id};

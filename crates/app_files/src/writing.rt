@@ -1,7 +1,7 @@
 //! Writes files whole, and standard output.
 ghost use Rattle.std.specs.Prelude.{◌≡◌, ℕ, IfErr, IfOk, List, codes};
 ghost use Rattle.std.specs.Io.KnownBytes.{Appends, Keeps};
-ghost use Rattle.app_files.specs.FailedFiles.{IsOfPath};
+ghost use Rattle.app_files.specs.FailedFiles.{HasCause, IsOfPath};
 ghost use Rattle.app_files.specs.declared.failed_file.Access.TheVariants.{Writing};
 
 use crate::cause::Cause;
@@ -95,7 +95,8 @@ pub fn give_up_file<F: Write + OpenFile + Drop>(
     path: &str,
     output: Output<F>,
 ) -> FileFault
-    ensures { IsOfPath Writing path.now result }
+    ensures path { IsOfPath Writing path.now result }
+    ensures cause { HasCause Cause.NotWritable result }
 {
     drop(output);
     output_fault(alloc, path, Cause::NotWritable)
@@ -178,7 +179,8 @@ pub fn print_text(rt: &(impl AllocGlobal + Print), text: &str) -> Result<(), Fil
 /// A run through one queue writes to standard output as its only port, so the run's own fault has no path. `write_standard` and
 /// `print_text`, and `output_fault` of `app_commands` call it.
 pub fn standard_output_fault(alloc: Global) -> FileFault
-    ensures { IsOfPath Writing (codes "-") result }
+    ensures path { IsOfPath Writing (codes "-") result }
+    ensures cause { HasCause Cause.Standard result }
 {
     output_fault(alloc, "-", Cause::Standard)
 }

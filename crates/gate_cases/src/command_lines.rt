@@ -3,10 +3,7 @@
 use crate::fault_lines::put_status;
 use crate::short_memory::{is_refused, put_refused};
 use crate::text_pieces::add_debug;
-use app_cli::{
-    ArgumentsFault, Command, TableRequest, parse_job, parse_picture_request, parse_table_request,
-    wants_explanation, wants_strictness,
-};
+use app_cli::{ArgumentsFault, PictureRequest, Request, TableRequest, parse_request};
 use app_commands::words_failure;
 use bridge_text::TextBuilder;
 use fixture_bridge::Ending;
@@ -60,54 +57,41 @@ fn push(alloc: Global, words: &mut Vec<String>, word: &str) -> bool {
 
 /// Adds the command, picture and tables that arguments ask for, or the fault line and the exit status.
 fn put_parsed(alloc: Global, said: &mut TextBuilder<Global>, words: &[String]) {
-    match parse_job(alloc, words) {
-        Ok(job) => {
-            put_job(alloc, said, words, &job);
-            put_picture(alloc, said, words);
-            put_tables(alloc, said, words);
+    match parse_request(alloc, words) {
+        Ok(request) => {
+            put_job(alloc, said, &request);
+            put_picture(alloc, said, &request.picture);
+            put_tables(alloc, said, &request.tables);
         }
         Err(fault) => put_status(alloc, said, &words_failure(fault)),
     }
 }
 
 /// Adds a command, and whether its arguments ask for an explanation and for strictness.
-fn put_job(alloc: Global, said: &mut TextBuilder<Global>, words: &[String], job: &Command) {
-    add_debug(alloc, said, job);
-    if wants_explanation(words) {
+fn put_job(alloc: Global, said: &mut TextBuilder<Global>, request: &Request) {
+    add_debug(alloc, said, &request.job);
+    if request.is_explained {
         said.put(", explained");
     }
-    if wants_strictness(words) {
+    if request.is_strict {
         said.put(", strict");
     }
     said.put("\n");
 }
 
-/// Adds the picture that arguments ask for, if any.
-fn put_picture(alloc: Global, said: &mut TextBuilder<Global>, words: &[String]) {
-    match parse_picture_request(alloc, words) {
-        Ok(Some(picture)) => {
-            add_debug(alloc, said, &picture);
-            said.put("\n");
-        }
-        Ok(None) => {}
-        Err(fault) => put_status(alloc, said, &words_failure(fault)),
+/// Adds the requested picture, if any.
+fn put_picture(alloc: Global, said: &mut TextBuilder<Global>, picture: &Option<PictureRequest>) {
+    if let Some(picture) = picture {
+        add_debug(alloc, said, picture);
+        said.put("\n");
     }
 }
 
-/// Adds the tables that arguments ask for, if any.
-fn put_tables(alloc: Global, said: &mut TextBuilder<Global>, words: &[String]) {
-    match parse_table_request(alloc, words) {
-        Ok(
-            TableRequest {
-                delays: None,
-                frames: None,
-            },
-        ) => {}
-        Ok(tables) => {
-            add_debug(alloc, said, &tables);
-            said.put("\n");
-        }
-        Err(fault) => put_status(alloc, said, &words_failure(fault)),
+/// Adds the requested tables, if any.
+fn put_tables(alloc: Global, said: &mut TextBuilder<Global>, tables: &TableRequest) {
+    if tables.delays.is_some() || tables.frames.is_some() {
+        add_debug(alloc, said, tables);
+        said.put("\n");
     }
 }
 
@@ -116,16 +100,15 @@ pub fn put_short_lines(alloc: Global, said: &mut TextBuilder<Global>) {
     for line in SHORT {
         said.put_template("$ {a}\n", &[], &[*line]);
         match split_words(alloc, line) {
-            Ok(words) => put_refused(said, is_refused(alloc, || job_ending(alloc, &words))),
+            Ok(words) => put_refused(said, is_refused(alloc, || request_ending(alloc, &words))),
             Err(_) => said.discard(),
         }
     }
 }
 
-/// Returns the program's fault for refused arguments.
 /// Returns how reading the arguments of a command ends.
-fn job_ending(alloc: Global, words: &[String]) -> Ending {
-    match parse_job(alloc, words) {
+fn request_ending(alloc: Global, words: &[String]) -> Ending {
+    match parse_request(alloc, words) {
         Ok(_) => Ending::Whole,
         Err(ArgumentsFault::NoMemory) => Ending::NoMemory,
         Err(_) => Ending::Wrong,

@@ -5,7 +5,7 @@ use crate::command_lines::split_words;
 use crate::job_cases::put_job_case;
 use crate::parts::put_parts_case;
 use crate::text_pieces::add;
-use app_cli::parse_job;
+use app_cli::parse_request;
 use app_commands::{wire_text, words_failure};
 use app_failure::{Failure, NoMemory, TextFault, fault_line};
 use bridge_capture::parse_octets;
@@ -127,7 +127,7 @@ fn text_explanation(alloc: Global, text: &[u8], fault: &TextFault) -> Result<Str
 /// Adds the explanation of arguments, which blanks separate.
 fn put_words_case(alloc: Global, said: &mut TextBuilder<Global>, text: &str) {
     match split_words(alloc, text) {
-        Ok(words) => match parse_job(alloc, &words).err() {
+        Ok(words) => match parse_request(alloc, &words).err() {
             None => said.put("accepted\n"),
             Some(fault) => put_line(
                 alloc,

@@ -5,7 +5,9 @@ use crate::fault_lines::put_status;
 use crate::growths::{count_growths, put_growths};
 use crate::short_memory::{is_refused, put_refused};
 use app_commands::wire_text;
-use app_failure::{Failure, NoMemory, check_job, read_commands_and_check, read_plan};
+use app_failure::{
+    Failure, NoMemory, check_line, read_accepted_plan, read_commands_and_check, read_plan,
+};
 use bridge_check::Accepted;
 use bridge_config::Command;
 use bridge_text::TextBuilder;
@@ -91,7 +93,10 @@ fn run_job<A: Allocator + Copy>(
     text: &str,
 ) -> Result<String<A>, Failure> {
     if heading.starts_with("check") {
-        check_job(alloc, heap, "PLAN", text.as_bytes())
+        accepted_line(
+            alloc,
+            read_accepted_plan(alloc, heap, "PLAN", text.as_bytes()),
+        )
     } else if heading.starts_with("run") {
         parse_commands(alloc, heap, text)
     } else {
@@ -99,6 +104,21 @@ fn run_job<A: Allocator + Copy>(
             Ok(lines) => Ok(lines),
             Err(fault) => Err(Failure::Text(fault)),
         }
+    }
+}
+
+/// Returns the line of an accepted plan.
+fn accepted_line<A: Allocator + Copy>(
+    alloc: A,
+    accepted: Result<Accepted<A>, Failure>,
+) -> Result<String<A>, Failure> {
+    match accepted {
+        Ok(accepted) => {
+            let line = check_line(alloc, &accepted);
+            drop(accepted);
+            Ok(line?)
+        }
+        Err(fault) => Err(fault),
     }
 }
 

@@ -23,8 +23,9 @@ const PASSES: u32 = 8;
 /// Largest number of changes that `relieve_stream` makes for one stream in one pass.
 const CHANGES: u32 = 16;
 
-/// Returns changes after which each stream that the search may change (`is_searched`) meets its deadline. Returns `None` if some searched
-/// stream was late in each of `PASSES` passes, or if memory runs out.
+/// Returns changes after which each stream that the search may change (`is_searched`) meets its deadline. A whole pass has tested them.
+///
+/// Returns `None` if some such stream was late in each of `PASSES` passes, or if memory runs out. No pass tests the changes of the last pass.
 ///
 /// `explain_network_streams` calls it.
 pub(crate) fn find_changes(

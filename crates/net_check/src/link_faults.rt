@@ -21,7 +21,8 @@ pub(crate) fn explain_link_fault(
     let mut said = TextBuilder::new(alloc);
     match refused.fault {
         NetworkFault::LinkTwice { end, .. } => {
-            put_twice(&mut said, asked, links, place, link, end)
+            put_twice(&mut said, asked, links, place, link, end);
+            put_free_ports(alloc, &mut said, asked, refused, end);
         }
         NetworkFault::SpeedsDiffer { .. } => put_speeds(&mut said, asked, plans, place, link),
         _ => put_ports(alloc, &mut said, asked, plans, place, link),
@@ -29,7 +30,7 @@ pub(crate) fn explain_link_fault(
     said.finish().ok()
 }
 
-/// Returns whether two ends of links are the same bridge port. `first_link_index` and `put_twice` call it.
+/// Returns whether two ends of links are the same bridge port. `first_link_index` and functions for ports with two links call it.
 fn is_one_port(one: BridgePort, other: BridgePort) -> bool {
     one.bridge == other.bridge && one.port == other.port
 }
@@ -44,8 +45,8 @@ fn bridge_name<'a>(asked: NetworkText<'a>, end: BridgePort) -> &'a str {
 }
 
 /// Returns the path of the plan of the bridge at this end of a link, as the network file writes it. Empty if the bridge is missing.
-/// `put_ports` and `put_speeds` call it.
-fn bridge_plan<'a>(asked: NetworkText<'a>, end: BridgePort) -> &'a str {
+/// `put_ports`, `put_remedy_heading` and others call it.
+pub(crate) fn bridge_plan<'a>(asked: NetworkText<'a>, end: BridgePort) -> &'a str {
     match asked.bridge(end.bridge) {
         Some(bridge) => bridge.plan(),
         None => "",
@@ -100,14 +101,70 @@ fn put_twice(
             NetField::Other
         };
         put_link_end(said, asked, place, field, end);
-        return said.put_template(
-            "but `link` {0} ends at this port too.\nA port has at most one link: correct one of the two.\n",
-            &[earlier],
-            &[],
-        );
+        return put_earlier_link(said, asked, links, earlier, end);
     }
     put_link_end(said, asked, place, NetField::Other, end);
     said.put("and so is `one`.\nA link joins two ports: correct one of its ends.\n");
+}
+
+/// Appends which earlier link ends at port `end`: its number `earlier`, the key and its line. Then appends a remedy. `put_twice` calls it.
+fn put_earlier_link(
+    said: &mut TextBuilder<Global>,
+    asked: NetworkText<'_>,
+    links: &[Link],
+    earlier: u64,
+    end: BridgePort,
+) {
+    let place = earlier as usize;
+    let key = match links.get(place.wrapping_sub(1)) {
+        Some(link) if is_one_port(link.one, end) => NetField::One.key(),
+        _ => NetField::Other.key(),
+    };
+    said.put_template("but so is `{a}` of `link` {0}", &[earlier], &[key]);
+    asked.put_line(said, NetSection::Link, place, key);
+    said.put(".\nA port has at most one link: correct one of the two.\n");
+}
+
+/// Returns whether one of these links ends at port `end`. `put_free_ports` calls it.
+fn has_link(links: &[Link], end: BridgePort) -> bool {
+    for link in links {
+        if is_one_port(link.one, end) || is_one_port(link.other, end) {
+            return true;
+        }
+    }
+    false
+}
+
+/// Appends a sentence with the ports of the bridge of `end` that have no link. Discards the whole explanation if memory runs out.
+/// `explain_link_fault` calls it.
+fn put_free_ports(
+    alloc: Global,
+    said: &mut TextBuilder<Global>,
+    asked: NetworkText<'_>,
+    refused: &RefusedNetwork<Global>,
+    end: BridgePort,
+) {
+    let Some(accepted) = refused.plans.get(end.bridge as usize) else {
+        return;
+    };
+    let mut numbers = Vec::new(alloc);
+    for port in accepted.plan().ports() {
+        let own = BridgePort {
+            bridge: end.bridge,
+            port: port.number,
+        };
+        let is_free = !has_link(refused.links.as_slice(), own);
+        if is_free && numbers.push(u64::from(port.number)).is_err() {
+            return said.discard();
+        }
+    }
+    let words = [bridge_name(asked, end), bridge_plan(asked, end)];
+    if numbers.is_empty() {
+        return said.put_template("Each port of {a} ({b}) has a link.\n", &[], &words);
+    }
+    said.put_template("Ports of {a} ({b}) without a link: ", &[], &words);
+    put_numbers(said, &numbers);
+    said.put(".\n");
 }
 
 /// Returns the speed in Mb/s of the port at this end of a link, or 0 if the plan lacks the port. `put_speeds` calls it.

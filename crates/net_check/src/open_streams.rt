@@ -1,5 +1,6 @@
 //! Explanations of the fault `NotClosed`: a hop accepts stray frames. They show an example of a stray frame, and remedies.
 
+use crate::link_faults::bridge_plan;
 use crate::refusing::bridge_name;
 use crate::warning_lines::address_words;
 use bridge_bounds::find_filter;
@@ -74,9 +75,9 @@ pub(crate) fn explain_open_stream(
     put_open_hop(&mut said, asked, row.name(), hop, open);
     put_stray_frame(heap, &mut said, file.bridges(), &stray, end, open);
     if is_left_out(refused, hops, end, open) {
-        put_left_out(&mut said, file.bridges(), row.name(), end, open);
+        put_left_out(&mut said, asked, row.name(), end, open);
     } else {
-        put_remedy_heading(&mut said, "Repair", file.bridges(), end);
+        put_remedy_heading(&mut said, "Repair", asked, end);
     }
     put_remedies(&mut said, sender, hops, &stray, end, open);
     said.finish().ok()
@@ -176,9 +177,9 @@ fn is_left_out(
 
 /// Appends the remedy to add the stray frames' filter to the stream's `hops`, and the heading of the other remedies. `explain_open_stream`
 /// calls it.
-fn put_left_out<A: Allocator + Copy>(
+fn put_left_out(
     said: &mut TextBuilder<Global>,
-    bridges: &[BridgeRow<A>],
+    asked: NetworkText<'_>,
     stream: &str,
     end: BridgePort,
     open: OpenStream,
@@ -186,23 +187,24 @@ fn put_left_out<A: Allocator + Copy>(
     said.put_template(
         "Add \"{a}.{0}\" to the `hops` of stream \"{b}\": filter {0} of {a} is protected and belongs to no stream.\n",
         &[u64::from(open.filter.unwrap_or(0))],
-        &[bridge_name(bridges, end.bridge), stream],
+        &[bridge_name(asked.file.bridges(), end.bridge), stream],
     );
-    put_remedy_heading(said, "Otherwise repair", bridges, end);
+    put_remedy_heading(said, "Otherwise repair", asked, end);
 }
 
-/// Appends the heading of the list of remedies, which names the sending bridge's plan. `word` begins the sentence. `explain_open_stream`
-/// and `put_left_out` call it.
-fn put_remedy_heading<A: Allocator + Copy>(
+/// Appends the heading of the list of remedies, which names the sending bridge and its plan's file. `word` begins the sentence.
+/// `explain_open_stream` and `put_left_out` call it.
+fn put_remedy_heading(
     said: &mut TextBuilder<Global>,
     word: &str,
-    bridges: &[BridgeRow<A>],
+    asked: NetworkText<'_>,
     end: BridgePort,
 ) {
+    let name = bridge_name(asked.file.bridges(), end.bridge);
     said.put_template(
-        "{a} the plan of {b} in one of these ways:\n",
+        "{a} the plan of {b} ({c}) in one of these ways:\n",
         &[],
-        &[word, bridge_name(bridges, end.bridge)],
+        &[word, name, bridge_plan(asked, end)],
     );
 }
 

@@ -6,27 +6,37 @@ use Rattle.bridge_groups.specs.GroupRows.{AreSharedQueues}
 use Rattle.bridge_groups.specs.SharedQueues.{is_bounded_by_gates}
 use Rattle.net_latency.specs.SharedLines.{is_lossy}
 
+-- The warning for a queue: `start`, its group, `fault`, its port and class, and `remedy`.
+unfoldable pub queue_warning : List ℕ → List ℕ → SharedQueue → List ℕ → List ℕ
+queue_warning start fault s remedy =
+    codes "Warning: " ++ (start ++ (codes "group " ++ (decimal s.group ++ (fault ++ (codes " at port " ++ (decimal s.port ++ (codes ", class " ++ (decimal s.class
+    ++ remedy))))))))
+
+-- The warning for a queue that may lose frames.
+abbrev pub loss_warning : SharedQueue → List ℕ → List ℕ
+loss_warning s remedy = queue_warning [] (codes " may lose frames") s remedy
+
 -- The warning for a queue whose delay only its capacity bounds.
-unfoldable pub unmetered_warning : SharedQueue → List ℕ
+abbrev pub unmetered_warning : SharedQueue → List ℕ
 unmetered_warning s =
-    codes "Warning: only the capacity bounds the delay of group " ++ (decimal s.group ++ (codes " at port " ++ (decimal s.port ++ (codes ", class " ++ (decimal s.class
-    ++ codes ". A filter has no meter, or the meters pass more than the windows carry. Give each filter a meter, or lower the rates.\n")))))
+    queue_warning (codes "only the capacity bounds the delay of ") [] s
+    (codes ". A filter has no meter, or the meters pass more than the windows carry. Give each filter a meter, or lower the rates.\n")
 
 -- The warning for a queue whose delay stream gates bound, but for which no capacity is known to suffice, because meters are missing.
-unfoldable pub unknown_room_warning : SharedQueue → List ℕ
-unknown_room_warning s =
-    codes "Warning: group " ++ (decimal s.group ++ (codes " may lose frames at port " ++ (decimal s.port ++ (codes ", class " ++ (decimal s.class
-    ++ codes ", because no capacity of the queue is known to suffice. Give each filter a meter.\n")))))
+abbrev pub unknown_room_warning : SharedQueue → List ℕ
+unknown_room_warning s = loss_warning s (codes ", because no capacity of the queue is known to suffice. Give each filter a meter.\n")
+
+-- The remedy for a queue that contains `capacity` frames and needs `room`.
+unfoldable pub small_remedy : ℕ → ℕ → List ℕ
+small_remedy room capacity =
+    codes ", because the queue holds only " ++ (decimal capacity ++ (codes " instead of " ++ (decimal room
+    ++ codes ". Raise `rooms`, or lower the rates of the meters.\n")))
 
 -- The warning of a queue that may drop copies as full: no capacity is known to suffice, or its own is less than `room`.
-unfoldable pub lossy_words : Option ℕ → SharedQueue → List ℕ
+abbrev pub lossy_words : Option ℕ → SharedQueue → List ℕ
 lossy_words None s =
-    codes "Warning: group " ++ (decimal s.group ++ (codes " may lose frames at port " ++ (decimal s.port ++ (codes ", class " ++ (decimal s.class
-    ++ codes ", because no capacity of the queue is known to suffice. Remove the `[[change]]`, or lower the rates of the meters.\n")))))
-lossy_words (Some room) s =
-    codes "Warning: group " ++ (decimal s.group ++ (codes " may lose frames at port " ++ (decimal s.port ++ (codes ", class " ++ (decimal s.class
-    ++ (codes ", because the queue holds only " ++ (decimal s.capacity ++ (codes " instead of " ++ (decimal room
-    ++ codes ". Raise `rooms`, or lower the rates of the meters.\n")))))))))
+    loss_warning s (codes ", because no capacity of the queue is known to suffice. Remove the `[[change]]`, or lower the rates of the meters.\n")
+lossy_words (Some room) s = loss_warning s (small_remedy room s.capacity)
 
 -- The warning for a queue that may drop copies as full.
 abbrev pub lossy_warning : SharedQueue → List ℕ

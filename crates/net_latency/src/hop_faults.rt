@@ -44,7 +44,10 @@ pub fn explain_hop_fault(
     let mut said = TextBuilder::new(alloc);
     put_hop(&mut said, asked, found);
     match refused.fault {
-        NetworkFault::HopTwice { .. } => put_twice(&mut said, asked, refused, found),
+        NetworkFault::HopTwice { .. } => {
+            put_twice(&mut said, asked, refused, found);
+            put_free_filters(alloc, &mut said, accepted.plan(), refused, found);
+        }
         NetworkFault::NotFed { hop: 1, .. } => put_no_entry(&mut said, accepted, found),
         NetworkFault::NotFed { .. } => {
             put_unfed(&mut said, refused.links.as_slice(), hops, found)
@@ -152,7 +155,8 @@ pub(crate) fn put_grouped(
     said.put(".\n");
 }
 
-/// Returns the number, from 1, of the first hop in `hops` with the bridge and filter of `hop`, or 0 if there is none. `put_twice` calls it.
+/// Returns the number, from 1, of the first hop in `hops` with the bridge and filter of `hop`, or 0 if there is none. `put_twice` and
+/// `is_in_stream` call it.
 fn hop_index(hops: &[StreamHop], hop: StreamHop) -> u64 {
     let mut place = 0u64;
     for other in hops {
@@ -164,7 +168,7 @@ fn hop_index(hops: &[StreamHop], hop: StreamHop) -> u64 {
     0
 }
 
-/// Appends which earlier hop has the refused hop's bridge and filter: the earlier hop's number and stream. Then appends a remedy.
+/// Appends which earlier hop has the refused hop's bridge and filter: its number, its stream and its line. Then appends a remedy.
 /// `explain_hop_fault` calls it.
 fn put_twice(
     said: &mut TextBuilder<Global>,
@@ -178,18 +182,62 @@ fn put_twice(
         let place = hop_index(hops.as_slice(), found.hop);
         if place > 0 {
             said.put_template(
-                "and so is hop {0} of stream \"{a}\".\n",
+                "and so is hop {0} of stream \"{a}\"",
                 &[place],
                 &[stream_name(asked, stream)],
             );
+            asked.put_line(said, NetSection::Stream, stream, NetField::Hops.key());
             break;
         }
     }
+    said.put(".\nA filter is one hop of one stream: correct one of the two hops.\n");
+}
+
+/// Returns whether one of these streams has the bridge and filter of `hop`. `put_free_filters` calls it.
+fn is_in_stream(streams: &[Vec<StreamHop>], hop: StreamHop) -> bool {
+    for hops in streams {
+        if hop_index(hops.as_slice(), hop) > 0 {
+            return true;
+        }
+    }
+    false
+}
+
+/// Appends a sentence with the protected filters of the refused hop's bridge that are in no stream. Discards the whole explanation if
+/// memory runs out. `explain_hop_fault` calls it.
+fn put_free_filters(
+    alloc: Global,
+    said: &mut TextBuilder<Global>,
+    plan: &Plan<Global>,
+    refused: &RefusedNetwork<Global>,
+    found: RefusedHop<'_>,
+) {
+    let mut numbers = Vec::new(alloc);
+    for (number, filter) in plan.filters() {
+        let hop = StreamHop {
+            bridge: found.hop.bridge,
+            filter: *number,
+        };
+        let is_free = filter.protected && !is_in_stream(refused.streams.as_slice(), hop);
+        if is_free && numbers.push(u64::from(*number)).is_err() {
+            return said.discard();
+        }
+    }
+    let words = [found.bridge.name(), found.bridge.plan()];
+    if numbers.is_empty() {
+        return said.put_template(
+            "Each protected filter of {a} ({b}) is in a stream.\n",
+            &[],
+            &words,
+        );
+    }
     said.put_template(
-        "A filter is one hop of one stream: name another filter of {a}.\n",
+        "Protected filters of {a} ({b}) that are in no stream: ",
         &[],
-        &[found.bridge.name()],
+        &words,
     );
+    put_numbers(said, &numbers);
+    said.put(".\n");
 }
 
 /// Appends that no open port of the bridge has a stream entry with the first hop's handle, so no talker's frame can reach the hop.

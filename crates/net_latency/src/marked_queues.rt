@@ -1,6 +1,6 @@
 //! Warnings of `bounds` about queues that groups share: queues that may drop copies as full, and queues that only their capacity bounds.
-ghost use Rattle.std.specs.Prelude.{◌≡◌, ◌++◌, IfOk, OnOk, string_bytes};
-ghost use Rattle.net_latency.specs.SharedWarnings.{AreSharedWarnings, lossy_warning, shared_warning, shared_warnings, unknown_room_warning, unmetered_warning};
+ghost use Rattle.std.specs.Prelude.{◌≡◌, ◌++◌, [], IfOk, OnOk, codes, string_bytes};
+ghost use Rattle.net_latency.specs.SharedWarnings.{AreSharedWarnings, lossy_warning, queue_warning, shared_warning, shared_warnings, small_remedy};
 
 use crate::shared_lines::is_lossy;
 use bridge_check::Accepted;
@@ -8,14 +8,30 @@ use bridge_groups::{SharedQueue, is_bounded_by_gates, plan_shared_queues};
 use bridge_limits::NoMemory;
 use std::alloc::{AllocError, Allocator};
 
-/// Appends the warning for a queue whose delay only its capacity bounds. In its group, a filter has no meter, or the meters pass more than
-/// the windows carry. `push_shared_warning` calls it.
-#[tactic(auto, unfolding(crate::specs::SharedWarnings::unmetered_warning))]
-fn push_unmetered_warning<A: Allocator + Copy>(
+/// Fault and remedy of a queue whose delay only its capacity bounds.
+const UNMETERED: &str =
+    ". A filter has no meter, or the meters pass more than the windows carry. Give each filter a meter, or lower the rates.\n";
+
+/// Fault and remedy of a queue whose filters don't all have meters.
+const UNKNOWN_ROOM: &str =
+    ", because no capacity of the queue is known to suffice. Give each filter a meter.\n";
+
+/// Fault and remedy of a queue for whose meters no capacity is known to suffice.
+const UNBOUNDED: &str =
+    ", because no capacity of the queue is known to suffice. Remove the `[[change]]`, or lower the rates of the meters.\n";
+
+/// Appends the warning for a queue: `start`, the queue's group, `fault`, its port and class, and `remedy`. `push_shared_warning` and
+/// `push_lossy_warning` call it.
+#[tactic(auto, unfolding(crate::specs::SharedWarnings::queue_warning))]
+fn push_queue_warning<A: Allocator + Copy>(
     text: &mut String<A>,
     row: &SharedQueue,
+    start: &str,
+    fault: &str,
+    remedy: &str,
 ) -> Result<(), AllocError>
-    ensures { OnOk result (string_bytes text.new ≡ string_bytes text.old ++ unmetered_warning row.now) }
+    ensures { OnOk result (string_bytes text.new ≡ string_bytes text.old ++ queue_warning start.now fault.now row.now
+        remedy.now) }
 {
     let SharedQueue {
         group,
@@ -25,56 +41,39 @@ fn push_unmetered_warning<A: Allocator + Copy>(
     } = *row;
     write!(
         text,
-        "Warning: only the capacity bounds the delay of group {group} at port {port}, class {class}. A filter has no meter, or the meters pass more than the windows carry. Give each filter a meter, or lower the rates.\n"
+        "Warning: {start}group {group}{fault} at port {port}, class {class}{remedy}"
     )
 }
 
-/// Appends the warning for a queue whose delay stream gates bound, but whose filters don't all have meters, so no capacity is known to
-/// suffice. `push_shared_warning` calls it.
-#[tactic(auto, unfolding(crate::specs::SharedWarnings::unknown_room_warning))]
-fn push_unknown_room_warning<A: Allocator + Copy>(
+/// Appends the warning for a queue that holds fewer frames than `room`, which would suffice. `push_lossy_warning` calls it.
+#[tactic(auto, unfolding(crate::specs::SharedWarnings::small_remedy))]
+fn push_small_warning<A: Allocator + Copy>(
     text: &mut String<A>,
     row: &SharedQueue,
+    room: u16,
 ) -> Result<(), AllocError>
-    ensures { OnOk result (string_bytes text.new ≡ string_bytes text.old ++ unknown_room_warning row.now) }
+    ensures { OnOk result (string_bytes text.new ≡ string_bytes text.old
+        ++ queue_warning [] (codes " may lose frames") row.now (small_remedy room row.now.capacity)) }
 {
-    let SharedQueue {
-        group,
-        port,
-        class,
-        ..
-    } = *row;
+    push_queue_warning(text, row, "", " may lose frames", "")?;
+    let capacity = row.capacity;
     write!(
         text,
-        "Warning: group {group} may lose frames at port {port}, class {class}, because no capacity of the queue is known to suffice. Give each filter a meter.\n"
+        ", because the queue holds only {capacity} instead of {room}. Raise `rooms`, or lower the rates of the meters.\n"
     )
 }
 
 /// Appends the warning for a queue that may be full and drop copies, because its capacity isn't known to suffice. `push_shared_warning`
 /// calls it.
-#[tactic(auto, unfolding(crate::specs::SharedWarnings::lossy_words))]
 fn push_lossy_warning<A: Allocator + Copy>(
     text: &mut String<A>,
     row: &SharedQueue,
 ) -> Result<(), AllocError>
     ensures { OnOk result (string_bytes text.new ≡ string_bytes text.old ++ lossy_warning row.now) }
 {
-    let SharedQueue {
-        group,
-        port,
-        class,
-        capacity,
-        ..
-    } = *row;
     match row.room {
-        Some(room) => write!(
-            text,
-            "Warning: group {group} may lose frames at port {port}, class {class}, because the queue holds only {capacity} instead of {room}. Raise `rooms`, or lower the rates of the meters.\n"
-        ),
-        None => write!(
-            text,
-            "Warning: group {group} may lose frames at port {port}, class {class}, because no capacity of the queue is known to suffice. Remove the `[[change]]`, or lower the rates of the meters.\n"
-        ),
+        Some(room) => push_small_warning(text, row, room),
+        None => push_queue_warning(text, row, "", " may lose frames", UNBOUNDED),
     }
 }
 
@@ -87,9 +86,15 @@ fn push_shared_warning<A: Allocator + Copy>(
 {
     if !row.is_metered {
         return if is_bounded_by_gates(row) {
-            push_unknown_room_warning(text, row)
+            push_queue_warning(text, row, "", " may lose frames", UNKNOWN_ROOM)
         } else {
-            push_unmetered_warning(text, row)
+            push_queue_warning(
+                text,
+                row,
+                "only the capacity bounds the delay of ",
+                "",
+                UNMETERED,
+            )
         };
     }
     if is_lossy(row.room, row.capacity) {

@@ -10,9 +10,11 @@ use crate::reporting::read_rows;
 use crate::timings::{QueueTiming, TrafficFigures, queue_timings};
 use app_failure::read_accepted_plan;
 use bridge_bounds::{Traffic, find_filter, longest_sdu, passes};
-use bridge_check::Accepted;
+use bridge_check::{Accepted, find_gate};
 use bridge_config::Plan;
+use bridge_cycle::{CyclicList, Timeline};
 use bridge_filter::FilterPlan;
+use bridge_gate::{GateEntry, Schedule};
 use bridge_groups::{SharedQueue, committed_tokens, is_open_gate, plan_shared_queues};
 use bridge_meter::HIGHEST_RATE;
 use bridge_text::TextBuilder;
@@ -242,16 +244,17 @@ pub fn put_reason(
         return put_hint(said, octets - most <= CHECK_OCTETS);
     }
     if let Some(meter) = filter.meter {
+        let (burst, rate) = committed_tokens(plan, filter.meter).unwrap_or((0, 0));
         return said.put_template(
-            "meter {0} of the filter may refuse frames.\n",
-            &[u64::from(meter)],
+            "meter {0} (`cir` {1} bit/s, `cbs` {2} octets) may refuse frames. For a periodic talker, no size is known to suffice. Remove the filter's `meter`.\n",
+            &[u64::from(meter), rate, burst],
             &[],
         );
     }
     if passes(plan, filter, traffic) {
         return said.put_template(
-            "a frame may still be queued when the next one arrives, and the queue may then be full. Its class {0} must be open early enough.\n",
-            &[u64::from(class)],
+            "a frame may still be queued when the next one arrives {1} ns later, and the queue may then be full. Its class {0} must be open early enough.\n",
+            &[u64::from(class), traffic.period],
             &[],
         );
     }
@@ -279,7 +282,77 @@ fn put_gate(
         ],
         &[],
     );
+    if let Some(gate) = find_gate(plan.gates(), filter.gate) {
+        put_open_entries(said, filter.gate, &gate.schedule);
+    }
     put_hint(said, is_shorter_passing(plan, filter, traffic));
+}
+
+/// Number of open entries after which an explanation cuts a gate's list.
+const MOST_ENTRIES: u32 = 8;
+
+/// Appends when gate `number` is open, by the entries of its list. Appends nothing for a gate that is always open or has a schedule change.
+/// `put_gate` calls it.
+fn put_open_entries(said: &mut TextBuilder<Global>, number: u32, schedule: &Schedule<Global>) {
+    match schedule {
+        Schedule::Fixed { lets: false, .. } => {
+            said.put_template(" Gate {0} is never open.", &[u64::from(number)], &[])
+        }
+        Schedule::Cyclic(list) => put_open_list(said, number, list),
+        _ => {}
+    }
+}
+
+/// Appends the open entries of gate `number`, in ns from the start of a cycle, with their `octets`. `put_open_entries` calls it.
+fn put_open_list(
+    said: &mut TextBuilder<Global>,
+    number: u32,
+    list: &CyclicList<GateEntry, Global>,
+) {
+    let mut start = 0u64;
+    let mut count = 0u32;
+    for (entry, length) in list.entries() {
+        let end = start.saturating_add(*length);
+        if entry.lets {
+            put_open_entry(said, number, count, *entry, (start, end));
+            count = count.saturating_add(1);
+        }
+        start = end;
+    }
+    if count == 0 {
+        return said.put_template(" Gate {0} is never open.", &[u64::from(number)], &[]);
+    }
+    said.put_template(
+        " of each cycle of {0} ns, counted from `base` {1}.",
+        &[list.cycle(), list.base()],
+        &[],
+    );
+}
+
+/// Appends the times in ns of an open entry, the `count`th of its gate from 0, and its `octets`. Appends `..` for the first entry that is
+/// left out. `put_open_list` calls it.
+fn put_open_entry(
+    said: &mut TextBuilder<Global>,
+    number: u32,
+    count: u32,
+    entry: GateEntry,
+    times: (u64, u64),
+) {
+    if count >= MOST_ENTRIES {
+        if count == MOST_ENTRIES {
+            said.put(", ..");
+        }
+        return;
+    }
+    let template = if count == 0 {
+        " Gate {2} is open at {0}..{1} ns"
+    } else {
+        ", {0}..{1} ns"
+    };
+    said.put_template(template, &[times.0, times.1, u64::from(number)], &[]);
+    if let Some(octets) = entry.octets {
+        said.put_template(" (`octets` {0})", &[u64::from(octets)], &[]);
+    }
 }
 
 /// Returns whether the filter would pass each frame if it were shorter by a frame check sequence of 4 octets. `put_gate` calls it.

@@ -52,8 +52,24 @@ impl<'a> NetworkText<'a> {
         put_position(said, self.position(section, index, key));
     }
 
+    /// Appends the line of `key`, such as ` (line 15)`; nothing if the document lacks it. `index` is the number of the instance in its
+    /// section, from 1.
+    ///
+    /// `put_twice`, and `put_earlier_link` of `net_check` call it for the earlier of two entries.
+    pub fn put_line(
+        self,
+        said: &mut TextBuilder<Global>,
+        section: NetSection,
+        index: usize,
+        key: &str,
+    ) {
+        if let Some(position) = self.position(section, index, Some(key)) {
+            said.put_template(" (line {0})", &[position.line as u64], &[]);
+        }
+    }
+
     /// Returns the position of `key` or, if it is `None`, of the header of the section's instance `index`, from 1. Returns `None` if the
-    /// document lacks the instance. `NetworkText::put_place` calls it.
+    /// document lacks the instance. `NetworkText::put_place` and `NetworkText::put_line` call it.
     fn position(self, section: NetSection, index: usize, key: Option<&str>) -> Option<Position> {
         let instance = Instance {
             document: self.document,
@@ -65,7 +81,7 @@ impl<'a> NetworkText<'a> {
 }
 
 /// Appends the first 16 numbers with commas between them, then `..` if `numbers` has more. Explanations show lists of filters and ports in
-/// this form. `put_protected` and `put_grouped`, and `put_ports` of `net_check` call it.
+/// this form. `put_protected` and others, and functions of `net_check` call it.
 pub fn put_numbers(said: &mut TextBuilder<Global>, numbers: &[u64]) {
     let mut is_first = true;
     for number in numbers.iter().take(MOST_NUMBERS) {

@@ -12,9 +12,3 @@ answers_more links hops b ways on q at is are i x there = elim (pushed ways on x
   | inl before ↦ are i x before
   | inr here ↦ sym here.1 ∙ (is ∙ ap (has_next_hop links hops b) (let last = here.0 in omega (arith, at, last)))
 ]
-
--- The rows by the ports that lead to a hop.
-pub lines_if : {T E : Type 0} (octets_of : T → List ℕ) (r : Result T E) (Are : List Bool → Type 0) (lines_of : List Bool → List ℕ) (ways : List Bool)
-    → Are ways → IfOk r (λ t. octets_of t ≡ lines_of ways) → IfOk r (λ t. (w : List Bool) × Are w × (octets_of t ≡ lines_of w))
-lines_if octets_of (Ok t) Are lines_of ways are is = (ways, are, is)
-lines_if octets_of (Err e) Are lines_of ways are is = tt

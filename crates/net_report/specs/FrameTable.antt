@@ -74,8 +74,3 @@ abbrev pub view_lines : {A : Type 0} → List ℕ → List ℕ → List (Option 
 view_lines stream hop roots ways v =
     verdict_lines stream hop roots v.origins.items 1 v.verdicts.items
     ++ (drop_lines stream hop roots v.origins.items v.drops.items ++ departure_lines stream hop roots v.origins.items ways v.departures.items)
-
--- Holds if `lines` has the rows of record `v` of a hop of `stream`, at bridge `b`, in the table of frames. `roots` has the source of each
--- frame.
-abbrev pub AreFrameLines : {A : Type 0} → List Link → List (HopRun A) → ℕ → List (Option SourceFrame) → List ℕ → List ℕ → View A → List ℕ → Type 0
-AreFrameLines links hops b roots stream hop v lines = (ways : List Bool) × AreOnwardPorts links hops b ways × (lines ≡ view_lines stream hop roots ways v)

@@ -1,21 +1,18 @@
 //! The table `frames.csv` of a network run: the fate of each frame of a stream at each hop. `write_stream` writes its rows.
-ghost use Rattle.std.specs.Prelude.{◌≡◌, ◌++◌, IfOk, codes, string_bytes};
+ghost use Rattle.std.specs.Prelude.{◌≡◌, ◌++◌, codes};
 ghost use Rattle.bridge_text.specs.Growth.{HasGrown};
 ghost use Rattle.net_report.specs.FrameTable as spec;
 
-use crate::copy_counting::HopRun;
 use crate::hop_counting::is_pass;
-use crate::hops::{is_onward, onward_ports};
+use crate::hops::is_onward;
 use crate::sources::{SourceFrame, source_frame};
 use crate::stream_table::put_number_with_suffix;
 use bridge_filter::Verdict;
-use bridge_limits::NoMemory;
 use bridge_report::{arrival_time, refusal_word, verdict_word};
 use bridge_semantics::{
     Departure, Dropped, StoredDeparture, StoredDrop, StoredOrigin, StoredVerdict, View,
 };
 use bridge_text::TextBuilder;
-use net_model::Link;
 use std::alloc::Allocator;
 
 /// First line of the table `frames.csv`. The columns `frame` and `came` have the number and the arrival time at the first hop, `at` the
@@ -228,7 +225,7 @@ fn put_departures<A: Allocator>(
 }
 
 /// Writes the `frames.csv` rows of a hop's record `view`: refused frames, dropped copies, then copies that left. `ways` has whether each
-/// port leads to a hop. `rows_of_hop` and `frame_lines` call it.
+/// port leads to a hop. `rows_of_hop` calls it.
 pub(crate) fn put_hop_lines<A: Allocator + Copy>(
     text: &mut TextBuilder<A>,
     stream: &str,
@@ -250,23 +247,4 @@ pub(crate) fn put_hop_lines<A: Allocator + Copy>(
         &view.departures,
         ways,
     );
-}
-
-/// Returns the `frames.csv` rows of hop `run`: refused frames, dropped copies, then copies that left, each in the order of the run.
-pub fn frame_lines<A: Allocator + Copy>(
-    alloc: A,
-    links: &[Link],
-    hops: &[HopRun<'_, A>],
-    run: &HopRun<'_, A>,
-    roots: &[Option<SourceFrame>],
-    stream: &str,
-    hop: &str,
-) -> Result<String<A>, NoMemory>
-    ensures { IfOk result (λ text. spec.AreFrameLines links.now hops.now run.now.bridge roots.now stream.now hop.now
-        run.now.view.now (string_bytes text)) }
-{
-    let ways = onward_ports(alloc, links, hops, run.bridge)?;
-    let mut text = TextBuilder::new(alloc);
-    put_hop_lines(&mut text, stream, hop, roots, &ways, run.view);
-    text.finish()
 }

@@ -17,7 +17,7 @@ mod tables;
 mod windows;
 
 pub use copy_counting::{HopRun, count_copies};
-pub use frame_table::{FRAMES_HEADER, frame_lines};
+pub use frame_table::FRAMES_HEADER;
 pub use hop_counting::{HopCounts, hop_counts};
 pub use losing::{HopLosses, put_faults};
 pub use network_picture::draw_network;

@@ -8,7 +8,7 @@ use crate::bounds::delays::{done_times, run_with_capture};
 use crate::bounds::read_plan;
 use crate::run_result;
 use app_failure::{Failure, file_failure};
-use app_files::read_text_file;
+use app_files::{open_input, read_named};
 use bridge_bounds::Phases;
 use bridge_capture::RunFault;
 use bridge_check::Accepted;
@@ -79,7 +79,11 @@ fn read_rows(rt: &(impl AllocGlobal + Files), file: &str) -> Result<Vec<TalkerRo
     ensures rows { IfOk result (λ rows. All IsTalkerRow rows.items) }
     ensures few { IfOk result (λ rows. length rows.items ≤ 1024) }
 {
-    let text = match read_text_file(rt, file) {
+    let reader = match open_input(rt, file) {
+        Ok(reader) => reader,
+        Err(fault) => return Err(file_failure(fault)),
+    };
+    let text = match read_named(rt.alloc(), rt.alloc(), file, reader) {
         Ok(text) => text,
         Err(fault) => return Err(file_failure(fault)),
     };
