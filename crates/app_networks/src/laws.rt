@@ -175,10 +175,10 @@ pub fn read_in_printed_time<A: Allocator + Copy, W>()
         → s + transmission_time x.item.len out.speed ≤ x.at + b }
 {}
 
-/// In a complete run of one bridge over captures, only its own events give the record of a filter whose queues are apart in time (`alone`).
-/// Two runs with equal own events give it equal records (`equal`).
+/// If the stream gates at all reachable queues of a filter are apart in time, only the filter's own events determine its record in a run
+/// over captures (`alone`). Two runs with equal own events give it equal records (`equal`).
 ///
-/// So the word `apart` that `bounds` prints holds for each run of `run`.
+/// So the promise of `apart` holds for each run of `run`, if `bounds` ends the lines of all queues of the filter with this word.
 pub fn read_apart_is_isolated<A: Allocator + Copy, W>()
     ensures alone { (p : Plan A) (ports : List ℕ) (commands : List Command) (texts : ℕ → List ℕ) (contents : W
         → Option (List ℕ))

@@ -1,4 +1,5 @@
--- Stream gates of the filters that share a queue, apart in time: what one gate passes has left before another gate opens.
+-- Stream gates of the filters that share a queue, apart in time. If the gap is a delay bound of the queue, what one gate passes has left
+-- before another gate opens.
 use Rattle.std.specs.Prelude.{◌≡◌, ◌≢◌, ◌≤◌, ◌<◌, ◌+◌, ℕ, true, false, Some, List, slice_get}
 use Rattle.bridge_cycle.specs.Cyclic.{Cyclic}
 use Rattle.bridge_gate.specs.declared.schedule.GateEntry.{GateEntry}
@@ -15,8 +16,7 @@ IsClosedUntil l from until = (t : ℕ) → from ≤ t → t < until → gate_ope
 abbrev pub AreOthersClosed : List (Cyclic GateEntry) → ℕ → ℕ → ℕ → Type 0
 AreOthersClosed ls i from until = (j : ℕ) (y : Cyclic GateEntry) → slice_get ls j ≡ Some y → i ≢ j → IsClosedUntil y from until
 
--- Holds if each other list of `ls` opens at least `gap` ns after each time before `until` at which the list with index `i` is open. It may
--- also be open earlier.
+-- Holds if, for each time `s` before `until` at which list `i` is open, all other lists are closed from `s` to `s + gap - 1`.
 abbrev pub LeavesGap : List (Cyclic GateEntry) → ℕ → ℕ → ℕ → Type 0
 LeavesGap ls gap until i =
     (j s t : ℕ) (x y : Cyclic GateEntry)
@@ -29,8 +29,7 @@ LeavesGap ls gap until i =
     → s ≤ t
     → s + gap ≤ t
 
--- Holds if, whenever one of the stream gates was open, each other gate stays closed for `gap` ns. If `gap` is positive, no two gates are
--- open at once.
+-- Holds if, for each time `s` at which one of the lists is open, all other lists are closed from `s` to `s + gap - 1`.
 abbrev pub AreListsApart : List (Cyclic GateEntry) → ℕ → Type 0
 AreListsApart ls gap =
     (i j s t : ℕ) (x y : Cyclic GateEntry)
@@ -42,7 +41,8 @@ AreListsApart ls gap =
     → s ≤ t
     → s + gap ≤ t
 
--- Holds if the stream gates of these filters are apart in time by `gap` ns (`AreListsApart`).
+-- Holds if the stream gates of these filters are apart in time by `gap` ns (`AreListsApart`). Each gate has one list, with `octets` in
+-- each open entry.
 pub record AreGatesApart {A : Type 0} (p : Plan A) (sharers : List (ℕ × FilterPlan)) (gap : ℕ) : Type 0 where
   pub lists : List (Cyclic GateEntry)
   pub are : AreGateLists p sharers lists

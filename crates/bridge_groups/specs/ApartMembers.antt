@@ -1,4 +1,4 @@
--- Filters of a group that are isolated by themselves: their queues' stream gates are apart in time.
+-- Filters of a group that are isolated by themselves: the stream gates at their queues are apart in time.
 use Rattle.std.specs.Prelude.{◌≡◌, ℕ, true, Some}
 use Rattle.bridge_filter.specs.declared.FilterPlan.{FilterPlan}
 use Rattle.bridge_config.specs.declared.ports.PortPlan.{PortPlan}
@@ -9,7 +9,8 @@ use Rattle.bridge_semantics.specs.Groups.{IsGroupMember}
 use Rattle.bridge_groups.specs.SharedQueues.{IsRowOf}
 use Rattle.bridge_groups.specs.declared.shared_queues.SharedQueue.{SharedQueue}
 
--- Holds if group `group` shares the queue of class `c` at port `q`, and the stream gates of its filters are apart in time.
+-- Holds if group `group` shares the queue of class `c` at port `q`, and the stream gates of the filters that share it are apart in time
+-- by the row's bound.
 pub record HasApartQueue {A : Type 0} (p : Plan A) (group q c : ℕ) : Type 0 where
   pub row : SharedQueue
   pub is_row : IsRowOf p group q c row

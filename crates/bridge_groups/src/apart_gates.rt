@@ -10,14 +10,15 @@ use bridge_cycle::{CyclicList, LONGEST_CYCLE, Timeline};
 use bridge_gate::GateEntry;
 use std::alloc::Allocator;
 
-/// Most intervals of a stream gate that `is_closed` and `leaves_gap` visit. A gate with more intervals counts as not apart.
+/// Number of intervals of a stream gate after which `is_closed` and `leaves_gap` give up. A gate of a merged list has at most 256 intervals
+/// in the common cycle.
 const MOST_INTERVALS: u32 = 1_024;
 
-/// Largest gap in ns that `are_lists_apart` tests. Greater bounds belong to queues that are no use to a schedule.
+/// Largest gap that `are_lists_apart` tests, in ns (11 days). It keeps `until` within the precondition of `is_closed`.
 const LONGEST_GAP: u64 = 1_000_000_000_000_000;
 
-/// Whether a stream gate stays closed from time `from` to before time `until`, in ns. Also `false` if this takes more than
-/// `MOST_INTERVALS` intervals. `are_others_closed` calls it.
+/// Whether a stream gate stays closed from time `from` to before time `until`, in ns. Also `false` if this takes `MOST_INTERVALS` or more
+/// intervals. `are_others_closed` calls it.
 fn is_closed<A: Allocator + Copy>(list: &CyclicList<GateEntry, A>, from: u64, until: u64) -> bool
     requires until { until ≤ 3_000_000_000_000_000 }
     requires lawful { IsLawful list.now }
@@ -56,8 +57,8 @@ fn are_others_closed<A: Allocator + Copy>(
     true
 }
 
-/// Whether each other stream gate opens at least `gap` ns after the gate with index `own` was open. Tests the times before `cycle`, in ns.
-/// Also `false` if there are more than `MOST_INTERVALS` intervals. `are_lists_apart` calls it.
+/// Whether, after each time at which the gate with index `own` is open, all other gates are closed for `gap` ns. Tests the times before
+/// `cycle`, in ns. Also `false` if there are `MOST_INTERVALS` or more intervals. `are_lists_apart` calls it.
 fn leaves_gap<A: Allocator + Copy>(
     lists: &[CyclicList<GateEntry, A>],
     own: usize,
@@ -85,8 +86,8 @@ fn leaves_gap<A: Allocator + Copy>(
     false
 }
 
-/// Whether, whenever one of the stream gates was open, each other gate stays closed for `gap` ns. Also `false` if the lists have no common
-/// cycle, or if the test takes too long. `gate_figures` calls it.
+/// Whether, after each time at which one of the stream gates is open, all others are closed for `gap` ns. Also `false` if the lists have no
+/// common cycle, or if the test takes too long. `gate_figures` calls it.
 pub(crate) fn are_lists_apart<A: Allocator + Copy>(
     lists: &[CyclicList<GateEntry, A>],
     gap: u64,

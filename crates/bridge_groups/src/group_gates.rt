@@ -16,14 +16,15 @@ use bridge_filter::FilterPlan;
 use bridge_limits::NoMemory;
 use std::alloc::Allocator;
 
-/// What the stream gates of the filters promise of a shared queue. Bounds are in ns, and `None` if the search finds none.
+/// Delay bounds of a shared queue by stream gates, in ns, and whether the gates are apart in time. A bound is `None` if the search finds
+/// none.
 #[derive(Clone, Copy)]
 pub(crate) struct GateFigures {
     /// Bound for any capture: SDUs have at least `CAPTURED_SDU` octets.
     pub(crate) captured: Option<u64>,
     /// Bound for frames of at least 60 octets, as on every Ethernet link.
     pub(crate) padded: Option<u64>,
-    /// Whether the gates are apart in time by the queue's least bound.
+    /// Whether, after one gate was open, all others stay closed for the queue's bound for any capture.
     pub(crate) is_apart: bool,
 }
 

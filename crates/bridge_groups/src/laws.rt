@@ -9,7 +9,8 @@ ghost use Rattle.bridge_frame.specs.Link.{transmission_time};
 ghost use Rattle.bridge_cycle.specs.ChangingList.{Joined};
 ghost use Rattle.bridge_port.specs.GateSchedule.{Changing, gate_schedule, list_opens, lists_open};
 ghost use Rattle.bridge_port.specs.Schedule.{Copy, Full, Started};
-ghost use Rattle.bridge_port.specs.Solo.{class_copies};
+ghost use Rattle.bridge_port.specs.Solo.{IsSolo, class_copies};
+ghost use Rattle.bridge_groups.specs.ApartParts.{part_copies};
 ghost use Rattle.bridge_config.specs.Model.{Plan};
 ghost use Rattle.bridge_config.specs.declared.ports.PortPlan.{PortPlan};
 ghost use Rattle.bridge_config.specs.Rules.{IsPlan, find_port};
@@ -40,7 +41,7 @@ ghost use Rattle.bridge_capture.specs.Grammar.{CapturedFrame};
 ghost use Rattle.bridge_config.specs.declared.command.Command.{Command};
 ghost use Rattle.bridge_semantics.specs.Merge.{Input, IsMerged, commands_of, input_events, input_streams};
 ghost use Rattle.bridge_groups.specs.Departures.{HaveConformingDepartures, filter_passages};
-ghost use Rattle.bridge_groups.specs.Curves.{AreArrivalsInOrder, HaveMeters, HasNoRunts, AreSharers, HasFilterCurve, curve_sum, optional_burst, sharers_curve, gate_curve, sharers_frame_limit, meter_curve, optional_rate};
+ghost use Rattle.bridge_groups.specs.Curves.{AreArrivalsInOrder, HaveMeters, HasNoRunts, has_filter_number, AreSharers, HasFilterCurve, curve_sum, optional_burst, sharers_curve, gate_curve, sharers_frame_limit, meter_curve, optional_rate};
 ghost use Rattle.bridge_gate.specs.Gates.{GateEvent, GateRules, gate_steps, last_frame_time};
 ghost use Rattle.bridge_groups.specs.GateLimits.{AreGateFramesInOrder, HasOctetLimits, octet_budget, recent_passed_octets};
 ghost use Rattle.bridge_check.specs.Acceptable.{IsAcceptable};
@@ -476,10 +477,26 @@ pub fn shared_queue_leaves_in_time_by_gates<A: Allocator + Copy>()
         → start + transmission_time x.item.len is.out.speed ≤ x.at + b }
 {}
 
-/// The record of a filter whose queues' stream gates are apart in time equals its record on an idle bridge. There, only its own events
-/// arrive, and queues have their ports to themselves.
+/// If the stream gates of a shared queue are apart in time, the copies of each filter fare as if the queue had only them. They are dropped,
+/// start and leave at the same times. docs/ISOLATION.md cites it.
+pub fn apart_queue_serves_alone<A: Allocator + Copy>()
+    ensures { (p : Plan A) (s : SharedQueue) (is : IsSharedQueue p s) (n : ℕ) (es : List Event) (moments : ℕ → ℕ)
+        (lists : ℕ → List (Copy CarriedFrame))
+        → IsPlan p
+        → HasAcceptableGroups p
+        → s.is_apart ≡ true
+        → IsRun p es moments lists
+        → AreFinished lists
+        → AreArrivalsInOrder es
+        → HaveSdus 2 es
+        → IsSolo (egress_rules is.out)
+        (part_copies (λ x. has_filter_number x.flow n) (class_copies s.class (lists s.port))) }
+{}
+
+/// If the stream gates at all reachable queues of a filter are apart in time, only the filter's own events determine its record. The record
+/// is that of an idle bridge whose queues have their ports to themselves.
 ///
-/// Neither outsiders nor other members of its group change anything of it. This is the isolation theorem for scheduled streams of one class
+/// Neither outsiders nor other members of its group change this record. This is the isolation theorem for scheduled streams of one class
 /// (docs/ISOLATION.md).
 pub fn apart_member_is_isolated<A: Allocator + Copy>()
     ensures { (p : Plan A) (group n : ℕ) (f : FilterPlan) (es : List Event) (lists : ℕ → List (Copy CarriedFrame))
@@ -494,8 +511,8 @@ pub fn apart_member_is_isolated<A: Allocator + Copy>()
         → IsSoloView p n f (own_events p n f es) v }
 {}
 
-/// If two runs have equal own events of a filter whose queues' stream gates are apart in time, its records are equal. Other filters of its
-/// group can't change them. docs/ISOLATION.md cites it.
+/// If two runs have equal own events of such a filter (`IsApartMember`), the filter's two records are equal, whatever else arrives.
+/// docs/ISOLATION.md cites it.
 pub fn members_change_nothing<A: Allocator + Copy>()
     ensures { (p : Plan A) (group n : ℕ) (f : FilterPlan) (es others : List Event)
         (lists more : ℕ → List (Copy CarriedFrame)) (o q : Outcome A) (u v : View A)

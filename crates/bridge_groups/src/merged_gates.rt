@@ -74,7 +74,7 @@ fn is_common_cycle<A: Allocator + Copy>(lists: &[CyclicList<GateEntry, A>], cycl
 }
 
 /// Returns a common multiple in ns of the lists' cycle times; 1 without lists. Returns `None` if the search finds none up to
-/// `LONGEST_CYCLE`. `merged_list` calls it.
+/// `LONGEST_CYCLE`. `merged_list` and `are_lists_apart` call it.
 pub(crate) fn gates_cycle<A: Allocator + Copy>(lists: &[CyclicList<GateEntry, A>]) -> Option<u64>
     ensures common { IfSome result (λ n. list_all (λ l. nat_eq (n % l.cycle) 0) lists.now ≡ true) }
     ensures some { IfSome result (λ n. (1 ≤ n) × (n ≤ LONGEST_CYCLE)) }

@@ -54,7 +54,7 @@ pub struct SharedQueue {
     pub by_gates: Option<u64>,
     /// Delay bound in ns by the stream gates, for frames of at least 60 octets; `None` if none is known.
     pub padded: Option<u64>,
-    /// Whether the stream gates of the filters are apart in time: whenever one was open, each other gate stays closed for the least bound.
+    /// Whether the stream gates of the filters are apart in time: after one was open, all others stay closed for `least_shared_bound` ns.
     pub is_apart: bool,
 }
 

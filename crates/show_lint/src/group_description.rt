@@ -56,7 +56,7 @@ const NO_ROOM: &str =
 
 /// Sentences on stream gates that are apart in time. `{0}`: the queue's delay bound in ns.
 const APART: &str =
-    "The stream gates of these filters are apart in time: after one was open, the others stay closed for {0} ns. So no filter of the group changes another filter's departures, drops or delays in this queue.\n";
+    "The stream gates of the filters that share this queue are apart in time: after one was open, the others stay closed for at least {0} ns. So in this queue, no filter changes another filter's departures, drops or delays.\n";
 
 /// What the filters that share a queue can send: the sums of their meters, and their longest frame.
 #[derive(Clone, Copy)]
@@ -159,7 +159,7 @@ pub(crate) fn put_group<A: Allocator + Copy>(
     }
 }
 
-/// Writes the windows, the bound, the meters and the capacity of a shared queue, and whether its filters are isolated by themselves.
+/// Writes the windows, the bound, the meters and the capacity of a shared queue, and whether its stream gates are apart in time.
 /// `put_group` calls it.
 fn put_shared_queue<A: Allocator + Copy>(said: &mut LintText, plan: &Plan<A>, row: &SharedQueue) {
     if row.port < 1 || row.port > 16 || row.class > 7 {
