@@ -99,8 +99,10 @@ fn hop_names(
     Ok(names)
 }
 
-/// Writes the rows of a stream to both tables, and returns the totals with its frames added. Fails with `Broken` and the table if a table
-/// can't be written, or with `NoMemory`. `write_both_tables` calls it.
+/// Writes the stream's rows to `streams.csv` and `frames.csv`. Returns the numbers of its frames and of its delivered frames, which
+/// `write_both_tables` adds up. Fails with `Broken` and the table if a table can't be written, or with `NoMemory`.
+///
+/// `write_both_tables` calls it.
 fn put_stream_rows<V: Write, W: Write>(
     alloc: Global,
     file: &NetworkFile<Global>,

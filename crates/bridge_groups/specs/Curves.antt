@@ -44,7 +44,7 @@ abbrev pub frame_limit : (ℕ → MeterPlan) → List (ℕ × FilterPlan) → �
 frame_limit meters [] w = 0
 frame_limit meters (g ∷ gs) w = (optional_burst meters g.1.meter * octet_units + optional_rate meters g.1.meter * w) / (64 * octet_units) + frame_limit meters gs w
 
--- The most frames of plan `p` that the meters of the filters pass in `w` ns.
+-- The most frames that the meters of the filters `sharers` in plan `p` pass in `w` ns.
 abbrev pub sharers_frame_limit : {A : Type 0} → Plan A → List (ℕ × FilterPlan) → ℕ → ℕ
 sharers_frame_limit p sharers w = frame_limit (plan_police p).meters sharers w
 

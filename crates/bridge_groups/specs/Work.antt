@@ -69,8 +69,8 @@ pub record IsDelayBound (opens : ℕ → Bool) (occ least : ℕ) (curve : ℕ �
   pub has_fit : (u : ℕ) → (v : ℕ) × IsFirstFit opens occ u v
   pub in_time : (u w : ℕ) → least ≤ curve w → (v : ℕ) × IsNthFit opens occ (curve w - least) u v × (v + least ≤ u + w + b)
 
--- Holds if a queue of `room` frames never overflows. In any `w` ns at most `many w` frames arrive, with work of `curve
--- w` ns; before `room` + 1 frames wait, enough have started.
+-- Sufficient condition that a queue of `room` frames never overflows. In any `w` ns at most `many w` frames arrive, with at most `curve w`
+-- ns of transmission time. If `room` + 1 frames can arrive in a span, enough frames start before its end.
 pub record IsSufficientRoom (opens : ℕ → Bool) (occ least : ℕ) (curve many : ℕ → ℕ) (room : ℕ) : Type 0 where
   pub has_fit : (u : ℕ) → (v : ℕ) × IsFirstFit opens occ u v
   pub has_place : 1 ≤ room

@@ -73,7 +73,8 @@ pub(crate) struct SpanSearch {
     pub(crate) bound: u64,
 }
 
-/// Returns the search after one more run of fits. The spans whose work ends in this run are covered. `search_step` calls it.
+/// Returns the search state after the run of fits `run`. A span is covered if its last frame starts in this run. Then `span` moves past the
+/// covered spans, and `bound` grows to at least the delay of the shortest one. `search_step` calls it.
 fn pass_run(curve: &LinearCurve, limits: &SpanLimits, search: SpanSearch, run: FitRun) -> SpanSearch
     requires curve { IsLinearCurve curve.now }
     requires times { (search.from ≤ 100_000_000_000_000) × (run.first + run.length ≤ search.from + 3 * LONGEST_CYCLE) }

@@ -312,8 +312,10 @@ fn relieve_hop(
     }
 }
 
-/// Lets the talker send later by the latest frame's wait at the first hop. Undoes this if a frame may then be refused. Returns whether the
-/// change stays, or `None` if memory runs out.
+/// Delays the talker's phases by `hop.last_wait`: the waiting time in ns at the first hop of a frame that arrives at the latest phase.
+/// Undoes the delay if a frame may then be refused, or a time is unknown.
+///
+/// Returns whether the delay stays, or `None` if memory runs out.
 ///
 /// `relieve_hop` calls it.
 fn relieve_talker(
@@ -336,8 +338,10 @@ fn relieve_talker(
     Some(false)
 }
 
-/// Lets the hop's list begin earlier by the latest frame's wait. Undoes this if a frame may then be refused. Returns whether the change
-/// stays; false without a list that can shift (`cycle_of_port`).
+/// Lets the hop's list begin earlier by `hop.last_wait`: the waiting time in ns of a frame that arrives at the latest phase. Undoes the
+/// shift if a frame may then be refused, or a time is unknown.
+///
+/// Returns whether the shift stays; false without a list that can shift (`cycle_of_port`).
 ///
 /// `relieve_hop` calls it.
 fn relieve_list(

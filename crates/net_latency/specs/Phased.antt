@@ -98,7 +98,8 @@ pub record IsWithinRouteLatency (period at end : ℕ) (r : StreamLatency) (done 
 abbrev pub stream_hop : {A : Type 0} → RouteHop A → StreamHop
 stream_hop leg = record { bridge = leg.bridge; filter = leg.filter }
 
--- The reachable queue of a stream in which route hop `leg` has its copy.
+-- The queue in which the frame's copy waits at route hop `leg`, with its hop, port and class. It is compared with the stream's reachable
+-- queues.
 abbrev pub queue_of_route_hop : {A : Type 0} → RouteHop A → HopQueue
 queue_of_route_hop leg = record { hop = stream_hop leg; port = leg.port; class = leg.copy.class }
 

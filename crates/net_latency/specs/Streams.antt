@@ -85,8 +85,8 @@ course_words (Some x) = delay_words x.worst x.best (Some x.phases)
 abbrev pub latency_words : Option StreamLatency → ℕ → List ℕ
 latency_words c bound = course_words c ++ (codes " bound " ++ decimal bound)
 
--- The time between a deadline and a worst delay: the margin of a met deadline, or the time by which a missed deadline is exceeded. Empty
--- without a deadline.
+-- Text of the `stream` line on an optional deadline in ns: ` margin N` if the worst delay is `N` ns before the deadline, or equal (`N` is
+-- 0); ` lacks N` if it is `N` ns after. Empty without a deadline.
 abbrev pub margin_words : Option ℕ → ℕ → List ℕ
 margin_words None worst = codes ""
 margin_words (Some d) worst = if is_met (Some d) worst then codes " margin " ++ decimal (d - worst) else codes " lacks " ++ decimal (worst - d)

@@ -36,8 +36,8 @@ fn active_list<A: Allocator + Copy>(list: &Egress<A>, at: u64) -> (u64, u64)
     }
 }
 
-/// Returns the number of times that a class opens after time `after` and up to time `to`, both in ns. The caller ensures that this is at
-/// most one cycle of a list.
+/// Returns the number of times that a class opens after time `after` and up to time `to`, both in ns. The time between them must be at most
+/// one cycle of a list. The function examines at most `MAX_TURNS` intervals, so for a longer time it can count too few.
 ///
 /// `count_list_openings` and `count_windows` call it.
 fn count_openings<A: Allocator + Copy>(list: &Egress<A>, class: u8, after: u64, to: u64) -> u64

@@ -133,7 +133,8 @@ fn put_misplaced_entry_key(
     put_instance_position(said, source, section, index, None);
 }
 
-/// Writes that a key isn't a key of its section and the nearest key, or why it isn't allowed there. `put_misplaced_key` calls it.
+/// Writes why key `key` is refused in this table. If the section knows the key, names the key that it lacks or excludes, or the missing
+/// `[[change]]`. Otherwise writes that the section lacks the key, and the nearest key. `put_misplaced_key` calls it.
 fn put_misplaced_table_key(
     alloc: Global,
     said: &mut Said,

@@ -263,7 +263,7 @@ pub struct LowRate {
     pub cycle: u64,
     /// Number of longest frames that the stream gate passes in a cycle.
     pub count: u64,
-    /// Octets that the meter counts for these frames.
+    /// Octets that the meter counts for `count` longest frames.
     pub octets: u64,
     /// Octets for which the meter gets tokens in a cycle.
     pub tokens: u64,
@@ -295,7 +295,7 @@ pub struct QueueOverload {
     pub cycle: u64,
     /// Number of longest frames that the stream gate passes in a cycle.
     pub count: u64,
-    /// Transmission time of these frames in ns.
+    /// Transmission time in ns of `count` longest frames.
     pub occupied: u64,
     /// Time in ns for which the class is open in a cycle of the port.
     pub open: u64,
