@@ -58,8 +58,22 @@ fn push_queue_warning<A: Allocator + Copy>(
     text.push_str(remedy)
 }
 
-/// Appends the warning for a queue that holds fewer frames than `room`, which would suffice. `push_lossy_warning` calls it.
+/// Appends the remedy for a queue that contains `capacity` frames and needs `room`. `push_small_warning` calls it.
 #[tactic(auto, unfolding(crate::specs::SharedWarnings::small_remedy))]
+fn push_small_remedy<A: Allocator + Copy>(
+    text: &mut String<A>,
+    room: u16,
+    capacity: u16,
+) -> Result<(), AllocError>
+    ensures { OnOk result (string_bytes text.new ≡ string_bytes text.old ++ small_remedy room capacity) }
+{
+    write!(
+        text,
+        ", because the queue holds only {capacity} instead of {room}. Raise `rooms`, or lower the rates of the meters.\n"
+    )
+}
+
+/// Appends the warning for a queue that holds fewer frames than `room`, which would suffice. `push_lossy_warning` calls it.
 fn push_small_warning<A: Allocator + Copy>(
     text: &mut String<A>,
     row: &SharedQueue,
@@ -69,11 +83,7 @@ fn push_small_warning<A: Allocator + Copy>(
         ++ queue_warning [] (codes " may lose frames") row.now (small_remedy room row.now.capacity)) }
 {
     push_queue_fault(text, row, "", " may lose frames")?;
-    let capacity = row.capacity;
-    write!(
-        text,
-        ", because the queue holds only {capacity} instead of {room}. Raise `rooms`, or lower the rates of the meters.\n"
-    )
+    push_small_remedy(text, room, row.capacity)
 }
 
 /// Appends the warning for a queue that may be full and drop copies, because its capacity isn't known to suffice. `push_shared_warning`
