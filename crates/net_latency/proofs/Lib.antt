@@ -29,3 +29,4 @@ pub mod TalkerPath
 pub mod TalkerDelivered
 pub mod TalkerPort
 pub mod PrintedStream
+pub mod MarkedQueues

@@ -6,11 +6,14 @@ use Rattle.bridge_groups.specs.GroupRows.{AreSharedQueues}
 use Rattle.bridge_groups.specs.SharedQueues.{is_bounded_by_gates}
 use Rattle.net_latency.specs.SharedLines.{is_lossy}
 
--- The warning for a queue: `start`, its group, `fault`, its port and class, and `remedy`.
-unfoldable pub queue_warning : List ℕ → List ℕ → SharedQueue → List ℕ → List ℕ
-queue_warning start fault s remedy =
-    codes "Warning: " ++ (start ++ (codes "group " ++ (decimal s.group ++ (fault ++ (codes " at port " ++ (decimal s.port ++ (codes ", class " ++ (decimal s.class
-    ++ remedy))))))))
+-- The start of the warning for a queue: `start`, its group, `fault`, its port and class.
+unfoldable pub queue_fault : List ℕ → List ℕ → SharedQueue → List ℕ
+queue_fault start fault s =
+    codes "Warning: " ++ (start ++ (codes "group " ++ (decimal s.group ++ (fault ++ (codes " at port " ++ (decimal s.port ++ (codes ", class " ++ decimal s.class)))))))
+
+-- The warning for a queue: its start and `remedy`.
+abbrev pub queue_warning : List ℕ → List ℕ → SharedQueue → List ℕ → List ℕ
+queue_warning start fault s remedy = queue_fault start fault s ++ remedy
 
 -- The warning for a queue that may lose frames.
 abbrev pub loss_warning : SharedQueue → List ℕ → List ℕ

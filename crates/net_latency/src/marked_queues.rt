@@ -1,6 +1,6 @@
 //! Warnings of `bounds` about queues that groups share: queues that may drop copies as full, and queues that only their capacity bounds.
 ghost use Rattle.std.specs.Prelude.{◌≡◌, ◌++◌, [], IfOk, OnOk, codes, string_bytes};
-ghost use Rattle.net_latency.specs.SharedWarnings.{AreSharedWarnings, lossy_warning, queue_warning, shared_warning, shared_warnings, small_remedy};
+ghost use Rattle.net_latency.specs.SharedWarnings.{AreSharedWarnings, lossy_warning, queue_fault, queue_warning, shared_warning, shared_warnings, small_remedy};
 
 use crate::shared_lines::is_lossy;
 use bridge_check::Accepted;
@@ -20,9 +20,30 @@ const UNKNOWN_ROOM: &str =
 const UNBOUNDED: &str =
     ", because no capacity of the queue is known to suffice. Remove the `[[change]]`, or lower the rates of the meters.\n";
 
-/// Appends the warning for a queue: `start`, the queue's group, `fault`, its port and class, and `remedy`. `push_shared_warning` and
-/// `push_lossy_warning` call it.
-#[tactic(auto, unfolding(crate::specs::SharedWarnings::queue_warning))]
+/// Appends the start of the warning for a queue: `start`, the queue's group, `fault`, its port and class. `push_queue_warning` and
+/// `push_small_warning` call it.
+#[tactic(auto, unfolding(crate::specs::SharedWarnings::queue_fault))]
+fn push_queue_fault<A: Allocator + Copy>(
+    text: &mut String<A>,
+    row: &SharedQueue,
+    start: &str,
+    fault: &str,
+) -> Result<(), AllocError>
+    ensures { OnOk result (string_bytes text.new ≡ string_bytes text.old ++ queue_fault start.now fault.now row.now) }
+{
+    let SharedQueue {
+        group,
+        port,
+        class,
+        ..
+    } = *row;
+    write!(
+        text,
+        "Warning: {start}group {group}{fault} at port {port}, class {class}"
+    )
+}
+
+/// Appends the warning for a queue: its start (`push_queue_fault`) and `remedy`. `push_shared_warning` and `push_lossy_warning` call it.
 fn push_queue_warning<A: Allocator + Copy>(
     text: &mut String<A>,
     row: &SharedQueue,
@@ -33,20 +54,26 @@ fn push_queue_warning<A: Allocator + Copy>(
     ensures { OnOk result (string_bytes text.new ≡ string_bytes text.old ++ queue_warning start.now fault.now row.now
         remedy.now) }
 {
-    let SharedQueue {
-        group,
-        port,
-        class,
-        ..
-    } = *row;
+    push_queue_fault(text, row, start, fault)?;
+    text.push_str(remedy)
+}
+
+/// Appends the remedy for a queue that contains `capacity` frames and needs `room`. `push_small_warning` calls it.
+#[tactic(auto, unfolding(crate::specs::SharedWarnings::small_remedy))]
+fn push_small_remedy<A: Allocator + Copy>(
+    text: &mut String<A>,
+    room: u16,
+    capacity: u16,
+) -> Result<(), AllocError>
+    ensures { OnOk result (string_bytes text.new ≡ string_bytes text.old ++ small_remedy room capacity) }
+{
     write!(
         text,
-        "Warning: {start}group {group}{fault} at port {port}, class {class}{remedy}"
+        ", because the queue holds only {capacity} instead of {room}. Raise `rooms`, or lower the rates of the meters.\n"
     )
 }
 
 /// Appends the warning for a queue that holds fewer frames than `room`, which would suffice. `push_lossy_warning` calls it.
-#[tactic(auto, unfolding(crate::specs::SharedWarnings::small_remedy))]
 fn push_small_warning<A: Allocator + Copy>(
     text: &mut String<A>,
     row: &SharedQueue,
@@ -55,12 +82,8 @@ fn push_small_warning<A: Allocator + Copy>(
     ensures { OnOk result (string_bytes text.new ≡ string_bytes text.old
         ++ queue_warning [] (codes " may lose frames") row.now (small_remedy room row.now.capacity)) }
 {
-    push_queue_warning(text, row, "", " may lose frames", "")?;
-    let capacity = row.capacity;
-    write!(
-        text,
-        ", because the queue holds only {capacity} instead of {room}. Raise `rooms`, or lower the rates of the meters.\n"
-    )
+    push_queue_fault(text, row, "", " may lose frames")?;
+    push_small_remedy(text, room, row.capacity)
 }
 
 /// Appends the warning for a queue that may be full and drop copies, because its capacity isn't known to suffice. `push_shared_warning`

@@ -1,6 +1,5 @@
 -- The ports that lead to a hop, one port more.
 use Rattle.std.proofs.Common.{◌≡◌, inl, inr, ℕ, ◌+◌, Bool, List, [], ◌∷◌, ◌++◌, length, sym, ap, ◌∙◌, arith}
-use Rattle.std.specs.Prelude.{IfOk, Result, Ok, Err}
 use Rattle.bridge_limits.proofs.Lists.{pushed}
 use Rattle.net_model.specs.declared.links.Link.{Link}
 use Rattle.net_report.specs.declared.copy_counting.HopRun.{HopRun}

@@ -1,5 +1,5 @@
 -- Rows of the table of frames, each with its line feed.
-use Rattle.std.specs.Prelude.{◌≡◌, ℕ, ◌+◌, ◌-◌, Bool, true, false, Option, Some, None, List, [], ◌∷◌, ◌++◌, flat_map, codes, decimal, if◌then◌else◌}
+use Rattle.std.specs.Prelude.{ℕ, ◌+◌, ◌-◌, Bool, true, false, Option, Some, None, List, [], ◌∷◌, ◌++◌, flat_map, codes, decimal, if◌then◌else◌}
 use Rattle.bridge_filter.specs.declared.Verdict.{Verdict}
 use Rattle.bridge_semantics.specs.declared.outcome.Departure.{Departure}
 use Rattle.bridge_semantics.specs.declared.outcome.Dropped.{Dropped}
@@ -7,10 +7,8 @@ use Rattle.bridge_semantics.specs.declared.outcome.Origin.{Origin}
 use Rattle.bridge_report.specs.Figures.{at_of}
 use Rattle.bridge_report.specs.Words.{verdict_word, refusal_word}
 use Rattle.bridge_semantics.specs.declared.outcome.View.{View}
-use Rattle.net_model.specs.declared.links.Link.{Link}
-use Rattle.net_report.specs.declared.copy_counting.HopRun.{HopRun}
 use Rattle.net_report.specs.declared.sources.SourceFrame.{SourceFrame}
-use Rattle.net_report.specs.Hops.{AreOnwardPorts, is_onward}
+use Rattle.net_report.specs.Hops.{is_onward}
 use Rattle.net_report.specs.HopCounts.{is_pass}
 use Rattle.net_report.specs.SourceFrames.{source_frame}
 
