@@ -1,2 +1,3 @@
 pub mod ScheduleLaws
 pub mod Asks
+pub mod Repeats

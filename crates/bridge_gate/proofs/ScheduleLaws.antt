@@ -62,9 +62,9 @@ ordered (Joined j) w = timeline_ordered (joined.turn_by_time j) (joined.cycle_le
 
 -- A gate may keep any interval of its schedule.
 pub kept : {A : Type 0} (s : Schedule A) (t : ℕ) (x : Turn GateEntry) → IsLawful s → turn_by_time s t ≡ Some x → IsScheduleTurn s x
-kept (Fixed lets ipv) t x w h = record { lawful = w; same = λ u begins ends. h }
-kept (Cyclic l) t x w h = let turned : IsTimelineTurn (cyclic.turn_by_time l) l.cycle t x = list_turn_is_exact l t x w h in record { lawful = w; same = λ u begins ends. turned.same u begins ends }
-kept (Joined j) t x w h = let turned : IsTimelineTurn (joined.turn_by_time j) (joined.cycle_length j) t x = changing_turn_is_exact j t x w h in record { lawful = w; same = λ u begins ends. turned.same u begins ends }
+kept (Fixed lets ipv) t x w h = record { lawful = w; time = (t, h); order = subst (λ (z : Turn GateEntry). z.start ≤ℤ pos z.end) (same_Some _ x h) (omega (arith, ints)); same = λ u begins ends. h }
+kept (Cyclic l) t x w h = let turned : IsTimelineTurn (cyclic.turn_by_time l) l.cycle t x = list_turn_is_exact l t x w h in let begun = turned.begins in let ended = turned.ends in record { lawful = w; time = (t, h); order = omega (arith, ints); same = λ u begins ends. turned.same u begins ends }
+kept (Joined j) t x w h = let turned : IsTimelineTurn (joined.turn_by_time j) (joined.cycle_length j) t x = changing_turn_is_exact j t x w h in let begun = turned.begins in let ended = turned.ends in record { lawful = w; time = (t, h); order = omega (arith, ints); same = λ u begins ends. turned.same u begins ends }
 
 -- The internal priority value of each interval is 0 to 7 or absent.
 pub turn_priority : {A : Type 0} (s : Schedule A) (t : ℕ) (x : Turn GateEntry) → has_valid_priorities s ≡ true → turn_by_time s t ≡ Some x → is_valid_priority x.state.ipv ≡ true

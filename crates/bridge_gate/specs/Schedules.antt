@@ -17,6 +17,13 @@ turn_by_time (Fixed lets ipv) t = Some (record { state = record { lets = lets; i
 turn_by_time (Cyclic l) t = cyclic.turn_by_time l t
 turn_by_time (Joined j) t = joined.turn_by_time j t
 
+-- Time in ns after which the intervals of the schedule repeat: the cycle time of one list; 0 for a fixed state, and for two
+-- lists with a schedule change.
+abbrev pub repeat_period : {A : Type 0} → Schedule A → ℕ
+repeat_period (Fixed lets ipv) = 0
+repeat_period (Cyclic l) = l.cycle
+repeat_period (Joined j) = 0
+
 -- Rules of a stream gate from its settings in the plan: its interval at each time by the schedule, and both switches
 -- unchanged.
 abbrev pub gate_rules : {A : Type 0} → GatePlan A → GateRules
@@ -29,9 +36,11 @@ IsLawful (Fixed lets ipv) = Unit {0}
 IsLawful (Cyclic l) = cyclic.IsLawful l
 IsLawful (Joined j) = joined.IsLawful j
 
--- Holds if interval `x` is the interval of each time within it, and the schedule is lawful.
+-- Holds if interval `x` is the interval of a time and of each time within it, and the schedule is lawful.
 pub record IsScheduleTurn {A : Type 0} (s : Schedule A) (x : Turn GateEntry) : Type 0 where
   pub lawful : IsLawful s
+  pub time : (t : ℕ) × (turn_by_time s t ≡ Some x)
+  pub order : x.start ≤ℤ pos x.end
   pub same : (u : ℕ) → x.start ≤ℤ pos u → u < x.end → turn_by_time s u ≡ Some x
 
 -- True if the internal priority value is 0 to 7 or absent (`None`).

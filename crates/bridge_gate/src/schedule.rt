@@ -1,6 +1,6 @@
-ghost use Rattle.std.specs.Prelude.{◌≡◌, ◌<◌, Some, IfOk};
+ghost use Rattle.std.specs.Prelude.{◌≡◌, ◌<◌, ◌≤◌, Some, IfOk};
 ghost use Rattle.std.specs.List.{list_all};
-ghost use Rattle.bridge_gate.specs.Schedules.{turn_by_time, IsLawful, is_valid_priority, has_valid_priorities};
+ghost use Rattle.bridge_gate.specs.Schedules.{turn_by_time, repeat_period, IsLawful, is_valid_priority, has_valid_priorities};
 
 use bridge_cycle::{CyclicList, END_OF_TURNS, Joined, NoMemory, Timeline, Turn};
 use std::alloc::Allocator;
@@ -58,6 +58,18 @@ impl<A: Allocator + Copy> Schedule<A> {
             },
             Schedule::Cyclic(list) => list.turn(t),
             Schedule::Joined(joined) => joined.turn(t),
+        }
+    }
+
+    /// Returns the time in ns after which the intervals repeat: the cycle time of one list. Returns 0 for a fixed state, and for two lists
+    /// with a schedule change. `StreamGate::new` stores it.
+    pub fn period(&self) -> u64
+        ensures period { result ≡ repeat_period self.now }
+        ensures short { result ≤ 1000000000 }
+    {
+        match self {
+            Schedule::Cyclic(list) => list.cycle(),
+            Schedule::Fixed { .. } | Schedule::Joined(_) => 0,
         }
     }
 

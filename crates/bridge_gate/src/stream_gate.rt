@@ -1,4 +1,4 @@
-ghost use Rattle.std.specs.Prelude.{◌≡◌, ℕ, ◌<◌, ◌≤◌, ◌^◌, ◌+◌, ◌&&◌, List, [], ◌∷◌, Some, true, false, Option, IsSome};
+ghost use Rattle.std.specs.Prelude.{◌≡◌, ℕ, ◌<◌, ◌≤◌, ◌^◌, ◌+◌, ◌&&◌, List, [], ◌∷◌, Some, true, false, Option, IsSome, IfSome, pos, ◌+ℤ◌, ◌≤ℤ◌};
 ghost use Rattle.bridge_gate.specs.declared.stream_gate.GateAnswer.TheVariants as gate;
 ghost use Rattle.bridge_gate.specs.Gates.{GateRules, GateEvent, Asked, ClearedRx, ClearedOctets, answer, gate_steps, is_shut_by_rx, is_shut_by_octets, last_frame_time};
 ghost use Rattle.bridge_gate.specs.Schedules.{gate_rules, has_valid_priorities, turn_by_time, IsLawful};
@@ -28,8 +28,8 @@ pub enum GateAnswer {
 /// Stream gate (IEEE 802.1Q-2018, 8.6.5.1.2) with its two flags, and the octets that have passed in the interval of the last counted frame.
 #[derive(Drop)]
 pub struct StreamGate<A: Allocator + Copy> {
-    /// Schedule, and which refusals shut the gate.
-    plan: GatePlan<A>,
+    /// Time in ns after which the intervals of the schedule repeat; 0 if no such time is known.
+    period: u64,
     /// Receive flag: a frame met the closed gate, and the plan shuts the gate then.
     rx: bool,
     /// Octets flag: a frame exceeded an octet limit, and the plan shuts the gate then.
@@ -40,13 +40,15 @@ pub struct StreamGate<A: Allocator + Copy> {
     count: u64,
     /// Arrival time in ns of the last frame; 0 before the first.
     earliest: u64,
-    /// Interval of the last search. Later frames in this interval need no search.
+    /// Interval of the last frame. Later frames in this interval, or in the same interval of a later cycle, need no search.
     turn: Turn<GateEntry>,
+    /// Schedule, and which refusals shut the gate. The fields that each frame reads stand before it, close together.
+    plan: GatePlan<A>,
 }
 
 impl<A: Allocator + Copy> Model for StreamGate<A> {
-    ghost use Rattle.std.specs.Prelude.{◌≡◌, ◌<◌, ◌^◌, true};
-    ghost use Rattle.bridge_gate.specs.Schedules.{has_valid_priorities, IsScheduleTurn};
+    ghost use Rattle.std.specs.Prelude.{◌≡◌, ◌<◌, ◌≤◌, ◌^◌, true};
+    ghost use Rattle.bridge_gate.specs.Schedules.{has_valid_priorities, repeat_period, IsScheduleTurn};
     ghost use Rattle.bridge_gate.specs.StandsFor.{GateState};
 
     ghost Value = { GateState A };
@@ -64,7 +66,19 @@ impl<A: Allocator + Copy> Model for StreamGate<A> {
       priorities : has_valid_priorities g.plan.schedule ≡ true;
       few : g.count < 2 ^ 32;
       kept : IsScheduleTurn g.plan.schedule g.turn;
+      period : g.period ≡ repeat_period g.plan.schedule;
+      short : g.period ≤ 1000000000;
     } };
+}
+
+/// Returns the time `delay` ns after `start`. `repeated_turn` calls it: the prover knows the ranges of arguments by value.
+#[inline(always)]
+fn delayed_start(start: i64, delay: u64) -> i64
+    requires early { start ≤ℤ pos 4000000000000000000 }
+    requires short { delay ≤ 5000000000000000000 }
+    ensures { result ≡ start +ℤ pos delay }
+{
+    start + delay as i64
 }
 
 impl<A: Allocator + Copy> StreamGate<A> {
@@ -76,14 +90,16 @@ impl<A: Allocator + Copy> StreamGate<A> {
         ensures earliest { result.earliest ≡ 0 }
     {
         let turn = plan.schedule.turn(0);
+        let period = plan.schedule.period();
         StreamGate {
-            plan,
+            period,
             rx: false,
             octets: false,
             start: 0,
             count: 0,
             earliest: 0,
             turn,
+            plan,
         }
     }
 
@@ -106,8 +122,8 @@ impl<A: Allocator + Copy> StreamGate<A> {
         self.answer_frame(t, turn, sdu)
     }
 
-    /// Returns the interval that contains time `t`: the stored interval, or else an interval of the schedule, which the gate then stores.
-    /// `ask` calls it.
+    /// Returns the interval that contains time `t`: the stored interval, or else the next interval, which the gate then stores. `ask` calls
+    /// it.
     #[inline(always)]
     fn find_turn(&mut self, t: u64) -> Turn<GateEntry>
         requires range { t < END_OF_TIME }
@@ -119,9 +135,49 @@ impl<A: Allocator + Copy> StreamGate<A> {
         if self.turn.start <= t as i64 && t < self.turn.end {
             return self.turn;
         }
-        let turn = self.plan.schedule.turn(t);
+        let turn = self.next_turn(t);
         self.turn = turn;
         turn
+    }
+
+    /// Returns the interval that contains time `t`, outside the stored interval: the stored interval some periods later, or else an
+    /// interval of the schedule. `find_turn` calls it.
+    #[inline(always)]
+    fn next_turn(&self, t: u64) -> Turn<GateEntry>
+        requires range { t < END_OF_TIME }
+        ensures turn { turn_by_time self.now.plan.schedule t ≡ Some result }
+        ensures lawful { IsLawful self.now.plan.schedule }
+        ensures priorities { has_valid_priorities self.now.plan.schedule ≡ true }
+    {
+        match self.repeated_turn(t) {
+            Some(turn) => turn,
+            None => self.plan.schedule.turn(t),
+        }
+    }
+
+    /// Returns the stored interval, moved by whole periods so that it contains time `t`; `None` if another entry of the list is then in
+    /// force. Reads no list: with many streams, lists aren't in the processor's cache.
+    ///
+    /// `next_turn` calls it.
+    #[inline(always)]
+    fn repeated_turn(&self, t: u64) -> Option<Turn<GateEntry>>
+        requires range { t < END_OF_TIME }
+        ensures { IfSome result (λ x. turn_by_time self.now.plan.schedule t ≡ Some x) }
+    {
+        if self.period == 0 || t < self.turn.end {
+            return None;
+        }
+        let left = self.period - (t - self.turn.end) % self.period;
+        let end = t + left;
+        let start = delayed_start(self.turn.start, end - self.turn.end);
+        if start > t as i64 {
+            return None;
+        }
+        Some(Turn {
+            state: self.turn.state,
+            start,
+            end,
+        })
     }
 
     /// Clears the receive flag, for a command of a run. The gate then answers by its schedule, unless the octets flag is set. `clear_rx` of

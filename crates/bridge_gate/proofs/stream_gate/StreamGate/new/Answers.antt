@@ -7,4 +7,6 @@ invariant_of-result g c = record {
   priorities = c.requires;
   few = omega arith;
   kept = kept _ 0 _ c.turn-turn.ensures.lawful c.turn-turn.ensures.turn;
+  period = c.period-period.ensures.period;
+  short = c.period-period.ensures.short;
 }
