@@ -36,16 +36,16 @@ cyclic_repeats {S} l w u m d x lawful h by from to =
     let s_ends : p < y.end = s.ends in
     let s_within : y.end ≤ l.cycle = s.within in
     subst (λ (z : Turn S). (z.start +ℤ pos d) ≤ℤ pos u → u < z.end + d → cyclic.turn_by_time l u ≡ Some (moved z d)) (same_Some (record { state = y.state; start = pos w -ℤ pos (p - y.start); end = w + (y.end - p) }) x b.2) (λ k n.
-        let q : ℕ = u + p - (w + d) in
-        let e : u + p ≡ w + (d + q) = omega (arith, ints) in
-        let q_low : y.start ≤ q = omega (arith, ints) in
-        let q_high : q < y.end = omega arith in
-        let late : u + p ≡ w + (m * l.cycle + (l.cycle + q)) = omega (arith, e, by) in
-        let there : phase l.base l.cycle u ≡ q = phase_moves l.base l.cycle w u q m lawful.cycle_some (omega arith) late in
-        let z : ℤ = (pos w -ℤ pos (p - y.start)) +ℤ pos d in
-        let starts : pos u -ℤ pos (q - y.start) ≡ z = omega (arith, ints) in
-        let ended : u + (y.end - q) ≡ w + (y.end - p) + d = omega arith in
-        rw (there, s.same q q_low q_high) (rw (starts, ended) refl)) from to
+    let q : ℕ = u + p - (w + d) in
+    let e : u + p ≡ w + (d + q) = omega (arith, ints) in
+    let q_low : y.start ≤ q = omega (arith, ints) in
+    let q_high : q < y.end = omega arith in
+    let late : u + p ≡ w + (m * l.cycle + (l.cycle + q)) = omega (arith, e, by) in
+    let there : phase l.base l.cycle u ≡ q = phase_moves l.base l.cycle w u q m lawful.cycle_some (omega arith) late in
+    let z : ℤ = (pos w -ℤ pos (p - y.start)) +ℤ pos d in
+    let starts : pos u -ℤ pos (q - y.start) ≡ z = omega (arith, ints) in
+    let ended : u + (y.end - q) ≡ w + (y.end - p) + d = omega arith in
+    rw (there, s.same q q_low q_high) (rw (starts, ended) refl)) from to
 
 -- An interval of a schedule repeats after `m + 1` periods.
 pub schedule_repeats : {A : Type 0} (s : Schedule A) (w u m d : ℕ) (x : Turn GateEntry) → IsLawful s → turn_by_time s w ≡ Some x → 0 < repeat_period s → d ≡ m * repeat_period s + repeat_period s → (x.start +ℤ pos d) ≤ℤ pos u → u < x.end + d → turn_by_time s u ≡ Some (moved x d)
